@@ -1,0 +1,58 @@
+-- Laying a part into a list: the laws. Assumes nothing.
+use mathlib.Core.Path.{_≡_, refl, sym, ap, _∙_}
+use mathlib.Core.List.{List, [], _∷_, _++_, append-assoc}
+use Prim.Native.Nat.{ℕ, zero, suc, _+_, _≤_, _<_}
+use native.Mathlib.Nat.{add-zero, add-assoc}
+use native.Mathlib.Omega.{arith}
+use native.Mathlib.Numerals.{add-one}
+use lib.ListN.{length, take, drop, set, length-append, length-drop, take-append-drop}
+use lib.Seq.{length-take-le, take-at, drop-at, drop-drop, set-split}
+use Rattle.lists.specs.Lay.{lay}
+
+module _ (i : ℕ) (new out : List ℕ) (fits : i + length new ≤ length out) where
+  front : length (take i out) ≡ i
+  front = length-take-le i out (omega arith)
+
+  written : length (take i out ++ new) ≡ i + length new
+  written = length-append (take i out) new ∙ ap (λ (n : ℕ). n + length new) front
+
+  pub length-lay : length (lay i new out) ≡ length out
+  length-lay = simp (length-append, length-drop, front) (omega arith)
+
+  -- what stands before the end of the part, and what behind it
+  pub take-lay : take (i + length new) (lay i new out) ≡ take i out ++ new
+  take-lay =
+      ap (take (i + length new)) (sym (append-assoc (take i out) new (drop (i + length new) out)))
+      ∙ take-at (take i out ++ new) (drop (i + length new) out) (i + length new) written
+
+  pub drop-lay : drop (i + length new) (lay i new out) ≡ drop (i + length new) out
+  drop-lay =
+      ap (drop (i + length new)) (sym (append-assoc (take i out) new (drop (i + length new) out)))
+      ∙ drop-at (take i out ++ new) (drop (i + length new) out) (i + length new) written
+
+pub lay-none : (i : ℕ) (out : List ℕ) → lay i [] out ≡ out
+lay-none i out = ap (λ (n : ℕ). take i out ++ drop n out) (add-zero i) ∙ take-append-drop i out
+
+-- a part, and directly behind it a second one, are one part
+pub lay-lay : (i : ℕ) (a b out : List ℕ) → i + length a + length b ≤ length out
+    → lay (i + length a) b (lay i a out) ≡ lay i (a ++ b) out
+lay-lay i a b out h =
+    ap (λ (l : List ℕ). l ++ (b ++ drop (i + length a + length b) (lay i a out))) (take-lay i a out (omega arith))
+    ∙ ap (λ (l : List ℕ). (take i out ++ a) ++ (b ++ l)) behind
+    ∙ append-assoc (take i out) a (b ++ drop (i + length (a ++ b)) out)
+    ∙ ap (λ (l : List ℕ). take i out ++ l) (sym (append-assoc a b (drop (i + length (a ++ b)) out)))
+  where
+    behind : drop (i + length a + length b) (lay i a out) ≡ drop (i + length (a ++ b)) out
+    behind =
+        sym (drop-drop (length b) (i + length a) (lay i a out))
+        ∙ ap (drop (length b)) (drop-lay i a out (omega arith))
+        ∙ drop-drop (length b) (i + length a) out
+        ∙ ap (λ (n : ℕ). drop n out) (add-assoc i (length a) (length b) ∙ ap (λ (n : ℕ). i + n) (sym (length-append a b)))
+
+-- one store directly behind the part makes it longer by one
+pub set-lay : (i : ℕ) (a out : List ℕ) (v : ℕ) → i + length a < length out
+    → set (lay i a out) (i + length a) v ≡ lay i (a ++ (v ∷ [])) out
+set-lay i a out v h =
+    set-split (lay i a out) (i + length a) v (omega (arith, length-lay i a out (omega arith)))
+    ∙ ap (λ (n : ℕ). take (i + length a) (lay i a out) ++ v ∷ drop n (lay i a out)) (sym (add-one (i + length a)))
+    ∙ lay-lay i a (v ∷ []) out (omega arith)

@@ -1,0 +1,4 @@
+pub mod Bits
+pub mod Xor
+pub mod Table
+pub mod Lay
