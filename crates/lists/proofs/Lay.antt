@@ -33,6 +33,12 @@ module _ (i : ℕ) (new out : List ℕ) (fits : i + length new ≤ length out) w
 pub lay-none : (i : ℕ) (out : List ℕ) → lay i [] out ≡ out
 lay-none i out = ap (λ (n : ℕ). take i out ++ drop n out) (add-zero i) ∙ take-append-drop i out
 
+-- the list's own front, laid where it stands
+pub lay-front : (n : ℕ) (out : List ℕ) → n ≤ length out → lay 0 (take n out) out ≡ out
+lay-front n out h =
+    let all : 0 + length (take n out) ≡ n = omega (arith, length-take-le n out h) in
+    ap (λ (k : ℕ). take n out ++ drop k out) all ∙ take-append-drop n out
+
 -- a part, and directly behind it a second one, are one part
 pub lay-lay : (i : ℕ) (a b out : List ℕ) → i + length a + length b ≤ length out
     → lay (i + length a) b (lay i a out) ≡ lay i (a ++ b) out
@@ -56,3 +62,13 @@ set-lay i a out v h =
     set-split (lay i a out) (i + length a) v (omega (arith, length-lay i a out (omega arith)))
     ∙ ap (λ (n : ℕ). take (i + length a) (lay i a out) ++ v ∷ drop n (lay i a out)) (sym (add-one (i + length a)))
     ∙ lay-lay i a (v ∷ []) out (omega arith)
+
+-- four stores in a row are a part of four
+pub set-four : (i : ℕ) (out : List ℕ) (a b c d : ℕ) → i + 3 < length out
+    → set (set (set (set out (i + 0) a) (i + 1) b) (i + 2) c) (i + 3) d ≡ lay i (a ∷ b ∷ c ∷ d ∷ []) out
+set-four i out a b c d h =
+    ap (λ (l : List ℕ). set (set (set (set l (i + 0) a) (i + 1) b) (i + 2) c) (i + 3) d) (sym (lay-none i out))
+    ∙ ap (λ (l : List ℕ). set (set (set l (i + 1) b) (i + 2) c) (i + 3) d) (set-lay i [] out a (omega arith))
+    ∙ ap (λ (l : List ℕ). set (set l (i + 2) c) (i + 3) d) (set-lay i (a ∷ []) out b (omega arith))
+    ∙ ap (λ (l : List ℕ). set l (i + 3) d) (set-lay i (a ∷ b ∷ []) out c (omega arith))
+    ∙ set-lay i (a ∷ b ∷ c ∷ []) out d h

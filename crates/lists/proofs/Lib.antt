@@ -2,3 +2,4 @@ pub mod Bits
 pub mod Xor
 pub mod Table
 pub mod Lay
+pub mod Four

@@ -4,6 +4,7 @@ use mathlib.Core.List.{List}
 use Prim.Native.Nat.{ℕ, zero, suc, _+_, _<_}
 use native.Mathlib.Nat.{add-zero, zero-add, add-suc, suc-add, le-of-suc-le-suc, not-suc-le-zero}
 use lib.ListN.{length, getD}
+use lib.Seq.{ext-getD}
 use Rattle.lists.specs.Table.{table, tableFrom}
 
 length-from : (f : ℕ → ℕ) (i n : ℕ) → length (tableFrom f i n) ≡ n
@@ -27,3 +28,11 @@ at f n t e k h = ap (λ (l : List ℕ). getD l k 0) e ∙ getD-from f 0 n k h �
 -- two rules whose tables are equal agree below n
 pub agree : (f g : ℕ → ℕ) (n : ℕ) → table f n ≡ table g n → (k : ℕ) → k < n → f k ≡ g k
 agree f g n e k h = sym (at f n (table f n) refl k h) ∙ at g n (table f n) e k h
+
+-- a list of n is the table of its elements
+pub as-table : (l : List ℕ) (n : ℕ) (f : ℕ → ℕ) → length l ≡ n → ((i : ℕ) → i < n → f i ≡ getD l i 0) → table f n ≡ l
+as-table l n f e h =
+    ext-getD 0 (table f n) l (length-table f n ∙ sym e)
+    (λ i lt.
+    let below : i < n = rw length-table at lt in
+    at f n (table f n) refl i below ∙ h i below)

@@ -7,6 +7,8 @@ use native.Mathlib.Omega.{arith}
 use lib.Bits.{bitXor, xor-comm as bits-comm, xor-zero-r as bits-zero}
 use lib.ListN.{length, getD, take, drop, replicate}
 use Rattle.lists.specs.Xor.{xor}
+use Rattle.lists.specs.Table.{table}
+use Rattle.lists.proofs.Table.{as-table}
 use Rattle.lists.proofs.Bits.{xor-assoc as bits-assoc, xor-cancel as bits-cancel}
 
 pub xor-comm : (a b : List ℕ) → xor a b ≡ xor b a
@@ -62,3 +64,9 @@ xor-append [] b [] d h = refl
 xor-append [] b (y ∷ c) d h = absurd (omega arith)
 xor-append (x ∷ a) b [] d h = absurd (omega arith)
 xor-append (x ∷ a) b (y ∷ c) d h = ap (λ (l : List ℕ). bitXor x y ∷ l) (xor-append a b c d (omega arith))
+
+-- byte by byte, for two strings of n bytes
+pub xor-table : (a b : List ℕ) (n : ℕ) → length a ≡ n → length b ≡ n → table (λ i. bitXor (getD a i 0) (getD b i 0)) n ≡ xor a b
+xor-table a b n ha hb =
+    as-table (xor a b) n (λ i. bitXor (getD a i 0) (getD b i 0)) (omega (arith, length-xor a b))
+    (λ i h. sym (getD-xor i a b (omega arith) (omega arith)))
