@@ -1,2 +1,5 @@
 pub mod Rounds
 pub mod Words
+pub mod Sizes
+pub mod Front
+pub mod Keys

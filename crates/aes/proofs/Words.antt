@@ -11,9 +11,10 @@ use lib.ListN.{length, getD, drop, length-append, List·getD-append}
 use Rattle.lists.specs.Xor.{xor}
 use Rattle.lists.specs.Lay.{lay}
 use Rattle.lists.proofs.Xor.{length-xor}
-use Rattle.lists.proofs.Lay.{lay-lay}
+use Rattle.lists.proofs.Laid.{lay-lay}
 use Rattle.lists.proofs.Four.{four}
-use Rattle.aes.specs.Expansion.{word, subWord, rotWord, rcon, if, temp, next, words}
+use Rattle.aes.specs.State.{word}
+use Rattle.aes.specs.Expansion.{subWord, rotWord, rcon, if, temp, next, words}
 
 -- the round constants stay within their ten
 pub constant-first : (i nk : ℕ) → 4 ≤ nk → nk ≤ i → 1 ≤ i / nk

@@ -1,11 +1,11 @@
--- The forward cipher of FIPS 197, section 5.1, over an expanded key w, which is a list of bytes, four to a word.
+-- The forward cipher of FIPS 197, section 5.1, over an expanded key w.
 use mathlib.Core.List.{List}
 use Prim.Native.Nat.{ℕ, zero, suc, _+_, _-_, _*_, _%_}
 use lib.Bits.{bitXor}
 use lib.ListN.{getD}
 use Rattle.field.specs.Field.{product}
 use Rattle.field.specs.Substitution.{substitute}
-use Rattle.aes.specs.State.{at, state, input, output}
+use Rattle.aes.specs.State.{at, state, input, output, word}
 
 -- 5.1.1
 abbrev pub subBytes : List (List ℕ) → List (List ℕ)
@@ -22,9 +22,9 @@ mixed a b c d = bitXor (bitXor (bitXor (product 2 a) (product 3 b)) c) d
 abbrev pub mixColumns : List (List ℕ) → List (List ℕ)
 mixColumns s = state (λ r c. mixed (at s r c) (at s ((r + 1) % 4) c) (at s ((r + 2) % 4) c) (at s ((r + 3) % 4) c))
 
--- 5.1.4, (5.7): column c takes the word 4 · round + c
+-- 5.1.4, (5.7): in round n, column c takes word 4n + c
 abbrev pub addRoundKey : List ℕ → ℕ → List (List ℕ) → List (List ℕ)
-addRoundKey w round s = state (λ r c. bitXor (at s r c) (getD w (4 * (4 * round + c) + r) 0))
+addRoundKey w n s = state (λ r c. bitXor (at s r c) (getD (word w (4 * n + c)) r 0))
 
 -- Figure 5: a round, and the last one, which has no column mixing
 unfoldable pub round : List ℕ → ℕ → List (List ℕ) → List (List ℕ)

@@ -7,12 +7,8 @@ use lib.ListN.{length, getD}
 use Rattle.lists.specs.Xor.{xor}
 use Rattle.field.specs.Field.{xtime}
 use Rattle.field.specs.Substitution.{substitute}
-use Rattle.aes.specs.State.{column}
+use Rattle.aes.specs.State.{column, word}
 use Rattle.aes.specs.Cipher.{cipher}
-
--- word i of an expanded key
-abbrev pub word : List ℕ → ℕ → List ℕ
-word w i = column (λ r. getD w (4 * i + r) 0)
 
 -- each byte of a word substituted
 abbrev pub subWord : List ℕ → List ℕ

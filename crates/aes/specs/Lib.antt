@@ -1,3 +1,4 @@
 pub mod State
 pub mod Cipher
 pub mod Expansion
+pub mod Key

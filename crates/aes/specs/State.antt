@@ -22,3 +22,7 @@ abbrev pub output : List (List ℕ) → List ℕ
 output s =
     at s 0 0 ∷ at s 1 0 ∷ at s 2 0 ∷ at s 3 0 ∷ at s 0 1 ∷ at s 1 1 ∷ at s 2 1 ∷ at s 3 1
     ∷ at s 0 2 ∷ at s 1 2 ∷ at s 2 2 ∷ at s 3 2 ∷ at s 0 3 ∷ at s 1 3 ∷ at s 2 3 ∷ at s 3 3 ∷ []
+
+-- word i of an expanded key, which is a list of bytes, four to a word
+abbrev pub word : List ℕ → ℕ → List ℕ
+word w i = column (λ r. getD w (4 * i + r) 0)

@@ -5,7 +5,8 @@ ghost use lib.ListN.{length, take};
 ghost use Rattle.lists.specs.Xor.{xor};
 ghost use Rattle.lists.specs.Lay.{lay};
 ghost use Rattle.field.specs.Substitution.{sbox};
-ghost use Rattle.aes.specs.Expansion.{power as powerOf, rotWord, temp as tempOf, next, word as wordOf, words};
+ghost use Rattle.aes.specs.State.{word as wordOf};
+ghost use Rattle.aes.specs.Expansion.{power as powerOf, rotWord, temp as tempOf, next, words};
 use crate::state;
 
 // The powers of x, the first bytes of the round constants.
@@ -69,19 +70,8 @@ fn next_word(table: &[u8; 256], w: &[u8], nk: usize, i: usize) -> [u8; 4]
     xor_word(old, t)
 }
 
-fn put_word(w: &mut [u8], i: usize, a: [u8; 4])
-    requires { ⌜ 4 * i + 4 ≤ length (now w) ⌝ }
-    ensures { λ _. ⌜ now (w .exit) ≡ lay (4 * i) a (now (w .entry)) ⌝ }
-{
-    let j = 4 * i;
-    w[j + 0] = a[0];
-    w[j + 1] = a[1];
-    w[j + 2] = a[2];
-    w[j + 3] = a[3];
-}
-
 // The words behind the key's own, n of them.
-fn fill(table: &[u8; 256], w: &mut [u8], nk: usize, n: usize)
+pub fn fill(table: &[u8; 256], w: &mut [u8], nk: usize, n: usize)
     requires { ⌜ now table ≡ sbox ⌝ }
     requires { ⌜ (4 ≤ nk) × (nk + n ≤ 11 * nk) ⌝ }
     requires { ⌜ 4 * (nk + n) ≤ length (now w) ⌝ }
@@ -90,7 +80,7 @@ fn fill(table: &[u8; 256], w: &mut [u8], nk: usize, n: usize)
     let mut k = 0;
     while k < n {
         let a = next_word(table, w, nk, nk + k);
-        put_word(w, nk + k, a);
+        lists::lay(w, 4 * (nk + k), &a);
         k += 1;
     }
 }

@@ -1,5 +1,6 @@
 pub mod Bits
 pub mod Xor
 pub mod Table
-pub mod Lay
+pub mod Laid
 pub mod Four
+pub mod Zeros

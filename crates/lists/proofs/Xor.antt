@@ -4,8 +4,8 @@ use mathlib.Core.List.{List, [], _∷_, _++_}
 use Prim.Native.Nat.{ℕ, zero, suc, _+_, _≤_, _<_, min}
 use native.Mathlib.Nat.{le-of-suc-le-suc, not-suc-le-zero, zero-min, min-zero, suc-min-suc}
 use native.Mathlib.Omega.{arith}
-use lib.Bits.{bitXor, xor-comm as bits-comm, xor-zero-r as bits-zero}
-use lib.ListN.{length, getD, take, drop, replicate}
+use lib.Bits.{bitXor, xor-comm as bits-comm}
+use lib.ListN.{length, getD, take, drop}
 use Rattle.lists.specs.Xor.{xor}
 use Rattle.lists.specs.Table.{table}
 use Rattle.lists.proofs.Table.{as-table}
@@ -37,12 +37,6 @@ unfolding xor
 xor-cancel [] z h = refl
 xor-cancel (x ∷ a) [] h = absurd (not-suc-le-zero h)
 xor-cancel (x ∷ a) (y ∷ z) h = ap₂ _∷_ (bits-cancel x y) (xor-cancel a z (le-of-suc-le-suc h))
-
-pub xor-zeros : (a : List ℕ) (n : ℕ) → length a ≤ n → xor a (replicate n 0) ≡ a
-unfolding xor
-xor-zeros [] n h = refl
-xor-zeros (x ∷ a) zero h = absurd (not-suc-le-zero h)
-xor-zeros (x ∷ a) (suc n) h = ap₂ _∷_ (bits-zero x) (xor-zeros a n (le-of-suc-le-suc h))
 
 pub take-xor : (n : ℕ) (a b : List ℕ) → take n (xor a b) ≡ xor (take n a) b
 unfolding xor

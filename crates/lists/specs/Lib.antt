@@ -1,3 +1,4 @@
 pub mod Xor
 pub mod Table
 pub mod Lay
+pub mod Zeros

@@ -1,12 +1,12 @@
 -- Laying a part into a list: the laws. Assumes nothing.
 use mathlib.Core.Path.{_≡_, refl, sym, ap, _∙_}
 use mathlib.Core.List.{List, [], _∷_, _++_, append-assoc}
-use Prim.Native.Nat.{ℕ, zero, suc, _+_, _≤_, _<_}
+use Prim.Native.Nat.{ℕ, zero, suc, _+_, _-_, _≤_, _<_}
 use native.Mathlib.Nat.{add-zero, add-assoc}
 use native.Mathlib.Omega.{arith}
 use native.Mathlib.Numerals.{add-one}
-use lib.ListN.{length, take, drop, set, length-append, length-drop, take-append-drop}
-use lib.Seq.{length-take-le, take-at, drop-at, drop-drop, set-split}
+use lib.ListN.{length, getD, take, drop, set, length-append, length-drop, take-append-drop}
+use lib.Seq.{length-take-le, take-at, drop-at, drop-append-add, drop-drop, take-suc, set-split}
 use Rattle.lists.specs.Lay.{lay}
 
 module _ (i : ℕ) (new out : List ℕ) (fits : i + length new ≤ length out) where
@@ -39,6 +39,18 @@ lay-front n out h =
     let all : 0 + length (take n out) ≡ n = omega (arith, length-take-le n out h) in
     ap (λ (k : ℕ). take n out ++ drop k out) all ∙ take-append-drop n out
 
+-- a longer front covers a shorter one
+pub lay-over : (a b out : List ℕ) → length a ≤ length b → lay 0 b (lay 0 a out) ≡ lay 0 b out
+lay-over a b out h =
+    let more = length b - length a in
+    let place : 0 + length b ≡ length a + more = omega arith in
+    let place-out : 0 + length a + more ≡ 0 + length b = omega arith in
+    ap (λ (l : List ℕ). b ++ l)
+    (ap (λ (k : ℕ). drop k (a ++ drop (0 + length a) out)) place
+    ∙ drop-append-add a (drop (0 + length a) out) more
+    ∙ drop-drop more (0 + length a) out
+    ∙ ap (λ (k : ℕ). drop k out) place-out)
+
 -- a part, and directly behind it a second one, are one part
 pub lay-lay : (i : ℕ) (a b out : List ℕ) → i + length a + length b ≤ length out
     → lay (i + length a) b (lay i a out) ≡ lay i (a ++ b) out
@@ -63,12 +75,12 @@ set-lay i a out v h =
     ∙ ap (λ (n : ℕ). take (i + length a) (lay i a out) ++ v ∷ drop n (lay i a out)) (sym (add-one (i + length a)))
     ∙ lay-lay i a (v ∷ []) out (omega arith)
 
--- four stores in a row are a part of four
-pub set-four : (i : ℕ) (out : List ℕ) (a b c d : ℕ) → i + 3 < length out
-    → set (set (set (set out (i + 0) a) (i + 1) b) (i + 2) c) (i + 3) d ≡ lay i (a ∷ b ∷ c ∷ d ∷ []) out
-set-four i out a b c d h =
-    ap (λ (l : List ℕ). set (set (set (set l (i + 0) a) (i + 1) b) (i + 2) c) (i + 3) d) (sym (lay-none i out))
-    ∙ ap (λ (l : List ℕ). set (set (set l (i + 1) b) (i + 2) c) (i + 3) d) (set-lay i [] out a (omega arith))
-    ∙ ap (λ (l : List ℕ). set (set l (i + 2) c) (i + 3) d) (set-lay i (a ∷ []) out b (omega arith))
-    ∙ ap (λ (l : List ℕ). set l (i + 3) d) (set-lay i (a ∷ b ∷ []) out c (omega arith))
-    ∙ set-lay i (a ∷ b ∷ c ∷ []) out d h
+-- the next byte of new: the loop's own step
+pub lay-more : (i : ℕ) (new out : List ℕ) (k : ℕ) → k < length new → i + length new ≤ length out
+    → set (lay i (take k new) out) (i + k) (getD new k 0) ≡ lay i (take (k + 1) new) out
+lay-more i new out k h fits =
+    let long : length (take k new) ≡ k = length-take-le k new (omega arith) in
+    let place : i + k ≡ i + length (take k new) = omega arith in
+    ap (λ (j : ℕ). set (lay i (take k new) out) j (getD new k 0)) place
+    ∙ set-lay i (take k new) out (getD new k 0) (omega arith)
+    ∙ ap (λ (l : List ℕ). lay i l out) (sym (take-suc new k 0 h) ∙ ap (λ (j : ℕ). take j new) (sym (add-one k)))
