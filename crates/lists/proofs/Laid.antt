@@ -1,12 +1,12 @@
 -- Laying a part into a list: the laws. Assumes nothing.
 use mathlib.Core.Path.{_≡_, refl, sym, ap, _∙_}
-use mathlib.Core.List.{List, [], _∷_, _++_, append-assoc}
+use mathlib.Core.List.{List, [], _∷_, _++_, append-assoc, append-nil}
 use Prim.Native.Nat.{ℕ, zero, suc, _+_, _-_, _≤_, _<_}
-use native.Mathlib.Nat.{add-zero, add-assoc}
+use native.Mathlib.Nat.{add-zero, zero-add, add-assoc}
 use native.Mathlib.Omega.{arith}
 use native.Mathlib.Numerals.{add-one}
-use lib.ListN.{length, getD, take, drop, set, length-append, length-drop, take-append-drop}
-use lib.Seq.{length-take-le, take-at, drop-at, drop-append-add, drop-drop, take-suc, set-split}
+use lib.ListN.{length, getD, take, drop, set, length-append, length-drop, take-append-drop, drop-of-length-le}
+use lib.Seq.{length-take-le, take-at, drop-at, drop-append-add, drop-drop, take-suc, take-all, set-split}
 use Rattle.lists.specs.Lay.{lay}
 
 module _ (i : ℕ) (new out : List ℕ) (fits : i + length new ≤ length out) where
@@ -84,3 +84,20 @@ lay-more i new out k h fits =
     ap (λ (j : ℕ). set (lay i (take k new) out) j (getD new k 0)) place
     ∙ set-lay i (take k new) out (getD new k 0) (omega arith)
     ∙ ap (λ (l : List ℕ). lay i l out) (sym (take-suc new k 0 h) ∙ ap (λ (j : ℕ). take j new) (sym (add-one k)))
+
+-- ---- at the front: new over out, byte by byte
+pub front-none : (out : List ℕ) → lay 0 [] out ≡ out
+front-none out = lay-none 0 out
+
+pub front-more : (new out : List ℕ) (k : ℕ) → k < length new → length new ≤ length out
+    → set (lay 0 (take k new) out) k (getD new k 0) ≡ lay 0 (take (k + 1) new) out
+front-more new out k h fits =
+    ap (λ (j : ℕ). set (lay 0 (take k new) out) j (getD new k 0)) (sym (zero-add k)) ∙ lay-more 0 new out k h (omega arith)
+
+pub lay-whole : (new out : List ℕ) → length out ≤ length new → lay 0 new out ≡ new
+lay-whole new out h =
+    let none : drop (0 + length new) out ≡ [] = drop-of-length-le out {i = 0 + length new} (omega arith) in
+    ap (λ (l : List ℕ). new ++ l) none ∙ append-nil new
+
+pub front-all : (new out : List ℕ) (k : ℕ) → length new ≤ k → length out ≤ length new → lay 0 (take k new) out ≡ new
+front-all new out k h e = ap (λ (l : List ℕ). lay 0 l out) (take-all k new h) ∙ lay-whole new out e
