@@ -23,7 +23,7 @@ abbrev pub mixColumns : List (List ℕ) → List (List ℕ)
 mixColumns s = state (λ r c. mixed (at s r c) (at s ((r + 1) % 4) c) (at s ((r + 2) % 4) c) (at s ((r + 3) % 4) c))
 
 -- 5.1.4, (5.7): in round n, column c takes word 4n + c
-abbrev pub addRoundKey : List ℕ → ℕ → List (List ℕ) → List (List ℕ)
+unfoldable pub addRoundKey : List ℕ → ℕ → List (List ℕ) → List (List ℕ)
 addRoundKey w n s = state (λ r c. bitXor (at s r c) (getD (word w (4 * n + c)) r 0))
 
 -- Figure 5: a round, and the last one, which has no column mixing

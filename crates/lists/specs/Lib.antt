@@ -2,3 +2,4 @@ pub mod Xor
 pub mod Table
 pub mod Lay
 pub mod Zeros
+pub mod Hex
