@@ -1,11 +1,13 @@
 -- Part blocks and padding: the laws. Assumes nothing.
 use mathlib.Core.Path.{_≡_, refl, sym, ap, _∙_}
+use mathlib.Core.Bool.{Bool, true, false}
 use mathlib.Core.List.{List, [], _∷_, _++_}
 use Prim.Native.Nat.{ℕ, _+_, _≤_, _<_}
 use native.Mathlib.Omega.{arith}
 use lib.ListN.{length, take, drop, length-append}
 use lib.Seq.{take-append-seam}
-use borrow.Author.Tests.{lt-ltb, le-ltb}
+use lib.Dec.{ltb}
+use borrow.Author.Tests.{lt-ltb, le-ltb, ltb-true, ltb-false}
 use Rattle.lists.specs.Xor.{xor}
 use Rattle.lists.specs.Zeros.{zeros}
 use Rattle.lists.proofs.Xor.{take-xor}
@@ -31,3 +33,11 @@ pad-short x h = ap (λ t. padded t x) (lt-ltb (length x) 16 h)
 pub pad-whole : (x : List ℕ) → 16 ≤ length x → pad x ≡ x
 unfolding pad
 pad-whole x h = ap (λ t. padded t x) (le-ltb (length x) 16 h)
+
+pub length-pad : (x : List ℕ) → length x ≤ 16 → length (pad x) ≡ 16
+unfolding pad
+length-pad x h = go (ltb (length x) 16) refl
+  where
+    go : (t : Bool) → ltb (length x) 16 ≡ t → length (padded t x) ≡ 16
+    go true e = length-filled (x ++ (0x80 ∷ [])) (omega (arith, length-append x (0x80 ∷ []), ltb-true (length x) 16 e))
+    go false e = omega (arith, ltb-false (length x) 16 e)

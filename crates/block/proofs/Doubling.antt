@@ -11,7 +11,7 @@ use Rattle.lists.specs.Xor.{xor}
 use Rattle.lists.specs.Zeros.{zeros}
 use Rattle.lists.proofs.Xor.{length-xor}
 use Rattle.lists.proofs.Zeros.{length-zeros, xor-last}
-use Rattle.block.specs.Block.{shift, reduced, double}
+use Rattle.block.specs.Block.{shift, reduced, double, triple, seven}
 
 pub length-shift : (x : List ℕ) → length (shift x) ≡ length x
 unfolding shift
@@ -39,3 +39,28 @@ unfolding double
 double-high x n h l =
     let top : getD x 0 0 / 128 ≡ 1 = omega arith in
     ap (λ (t : ℕ). reduced t (shift x)) top ∙ xor-last (shift x) 15 0x87 (omega (arith, length-shift x))
+
+-- ---- sixteen bytes stay sixteen
+pub length-double : (x : List ℕ) → length x ≡ 16 → length (double x) ≡ 16
+unfolding double
+length-double x h = go (getD x 0 0 / 128)
+  where
+    c : List ℕ
+    c = zeros 15 ++ (0x87 ∷ [])
+
+    go : (t : ℕ) → length (reduced t (shift x)) ≡ 16
+    go zero = length-shift x ∙ h
+    go (suc t) = omega (arith, length-xor (shift x) c, length-append (zeros 15) (0x87 ∷ []), length-zeros 15, length-shift x)
+
+pub length-triple : (x : List ℕ) → length x ≡ 16 → length (triple x) ≡ 16
+length-triple x h = omega (arith, length-xor (double x) x, length-double x h)
+
+pub length-seven : (x : List ℕ) → length x ≡ 16 → length (seven x) ≡ 16
+length-seven x h =
+    omega (
+      arith,
+      length-xor (xor (double (double x)) (double x)) x,
+      length-xor (double (double x)) (double x),
+      length-double (double x) (length-double x h),
+      length-double x h,
+    )

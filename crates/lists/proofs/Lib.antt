@@ -4,3 +4,4 @@ pub mod Table
 pub mod Laid
 pub mod Four
 pub mod Zeros
+pub mod Same

@@ -3,3 +3,4 @@ pub mod Table
 pub mod Lay
 pub mod Zeros
 pub mod Hex
+pub mod Same

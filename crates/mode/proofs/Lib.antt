@@ -1,0 +1,9 @@
+pub mod Counts
+pub mod Pairs
+pub mod Ends
+pub mod Walk
+pub mod Tag
+pub mod Opens
+pub mod Third
+pub mod Expected
+pub mod StandIn

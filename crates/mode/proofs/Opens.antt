@@ -1,0 +1,75 @@
+-- Opening, stated over sealing alone: for every cipher, all masks, every TA of 16 bytes and every t up to 16. Assumes nothing.
+use mathlib.Core.Path.{_≡_, refl, sym, ap, ap₂, _∙_}
+use mathlib.Core.Bool.{Bool, true, false}
+use mathlib.Core.List.{List, _++_}
+use Prim.Native.Nat.{ℕ, _+_, _-_, _≤_}
+use native.Mathlib.Omega.{arith}
+use lib.ListN.{length, take, drop, length-append, take-append-drop}
+use lib.Seq.{take-at, drop-at}
+use Rattle.lists.specs.Same.{same}
+use Rattle.lists.proofs.Same.{same-true, same-false}
+use Rattle.mode.specs.Masks.{Masks, IsCipher, AreMasks}
+use Rattle.mode.specs.Message.{body}
+use Rattle.mode.specs.Sealing.{tag, sealed}
+use Rattle.mode.specs.Opening.{Opened, accepted, refused, Allowed}
+use Rattle.mode.specs.Undoing.{unbody, answer, plain, opened}
+use Rattle.mode.proofs.Walk.{length-body, body-undone, unbody-sealed}
+use Rattle.mode.proofs.Tag.{length-tag}
+
+module _ (E : List ℕ → List ℕ) (e : IsCipher E) (k : Masks) (s : AreMasks k) (a : List ℕ) (ha : length a ≡ 16) (t : ℕ) (ht : t ≤ 16) where
+  -- the sealed string is t bytes longer than the message
+  pub length-sealed : (m : List ℕ) → length (sealed E k a t m) ≡ length m + t
+  unfolding sealed
+  length-sealed m =
+      omega (arith, length-append (body E k m) (tag E k a t m), length-body E e k s m, length-tag E e k s a t ha ht m)
+
+  -- a sealed string, taken apart again
+  module _ (m : List ℕ) where
+    place : length (body E k m) ≡ length (sealed E k a t m) - t
+    place = omega (arith, length-body E e k s m, length-sealed m)
+
+    pub front-is : take (length (sealed E k a t m) - t) (sealed E k a t m) ≡ body E k m
+    unfolding sealed
+    front-is = take-at (body E k m) (tag E k a t m) (length (sealed E k a t m) - t) place
+
+    pub back-is : drop (length (sealed E k a t m) - t) (sealed E k a t m) ≡ tag E k a t m
+    unfolding sealed
+    back-is = drop-at (body E k m) (tag E k a t m) (length (sealed E k a t m) - t) place
+
+    pub plain-is : plain E k a t (sealed E k a t m) ≡ m
+    plain-is = ap (unbody E k) front-is ∙ body-undone E e k s m
+
+  -- no two messages seal to the same string
+  pub injective : (m n : List ℕ) → sealed E k a t m ≡ sealed E k a t n → m ≡ n
+  injective m n h = sym (plain-is m) ∙ ap (plain E k a t) h ∙ plain-is n
+
+  -- what opening finds is allowed, for every string of at least t bytes
+  pub opens : (x : List ℕ) → t ≤ length x → Allowed (sealed E k a t) x (opened E k a t x)
+  unfolding opened sealed
+  opens x h = go (same (tag E k a t (plain E k a t x)) (drop (length x - t) x)) refl
+    where
+      go : (b : Bool) → same (tag E k a t (plain E k a t x)) (drop (length x - t) x) ≡ b → Allowed (sealed E k a t) x (answer b (plain E k a t x))
+      go true p =
+          ap₂ _++_ (unbody-sealed E e k s (take (length x - t) x)) (same-true (tag E k a t (plain E k a t x)) (drop (length x - t) x) p)
+          ∙ take-append-drop (length x - t) x
+      go false p =
+          λ m q.
+          same-false (tag E k a t (plain E k a t x)) (drop (length x - t) x) p
+          (ap (λ (y : List ℕ). tag E k a t (plain E k a t y)) (sym q)
+          ∙ ap (tag E k a t) (plain-is m)
+          ∙ sym (back-is m)
+          ∙ ap (λ (y : List ℕ). drop (length y - t) y) q)
+
+  -- two answers that are allowed for one string are equal
+  pub one-answer : (x : List ℕ) (o p : Opened) → Allowed (sealed E k a t) x o → Allowed (sealed E k a t) x p → o ≡ p
+  one-answer x (accepted m) (accepted n) q r = ap accepted (injective m n (q ∙ sym r))
+  one-answer x (accepted m) refused q r = absurd (r m q)
+  one-answer x refused (accepted n) q r = absurd (q n r)
+  one-answer x refused refused q r = refl
+
+  -- so the allowed answer is the one that opening finds, and opening a sealed message gives it back
+  pub only : (x : List ℕ) (o : Opened) → t ≤ length x → Allowed (sealed E k a t) x o → o ≡ opened E k a t x
+  only x o h q = one-answer x o (opened E k a t x) q (opens x h)
+
+  pub round-trip : (m : List ℕ) → opened E k a t (sealed E k a t m) ≡ accepted m
+  round-trip m = sym (only (sealed E k a t m) (accepted m) (omega (arith, length-sealed m)) refl)

@@ -1,0 +1,32 @@
+-- The definitions computed over a small stand-in cipher, held to what the second program gives. Assumes nothing.
+use mathlib.Core.Path.{_≡_, refl}
+use mathlib.Core.List.{List, [], _∷_, map}
+use Prim.Native.Nat.{ℕ, _+_, _*_, _%_}
+use lib.ListN.{getD}
+use Rattle.lists.specs.Hex.{bytes}
+use Rattle.lists.specs.Table.{table, tableFrom}
+use Rattle.lists.specs.Xor.{xor}
+use Rattle.lists.specs.Zeros.{zeros}
+use Rattle.block.specs.Block.{pad, shift, double}
+use Rattle.mode.specs.Masks.{doubles}
+use Rattle.mode.specs.Message.{blocks, pairsOf, even, sum, pairs, body, checksum, te}
+use Rattle.mode.specs.Data.{dataSum, ta}
+use Rattle.mode.specs.Nonce.{format}
+use Rattle.mode.specs.Sealing.{tag, sealed, otr}
+use Rattle.mode.proofs.Expected.{Row, expected}
+
+-- byte i is 5 times byte i, 3 times the next, and 7i + 11
+pub standIn : List ℕ → List ℕ
+standIn b = table (λ i. (5 * getD b i 0 + 3 * getD b ((i + 1) % 16) 0 + 7 * i + 11) % 256) 16
+
+-- the row, sealed: byte i of the message is 7i + 3, of the data 11i + 5, of the nonce 13i + 1
+pub computed : Row → List ℕ
+computed (m, a, k, t, x) =
+    otr standIn (table (λ i. (13 * i + 1) % 256) k) (table (λ i. (11 * i + 5) % 256) a) t (table (λ i. (7 * i + 3) % 256) m)
+
+pub given : Row → List ℕ
+given (m, a, k, t, x) = bytes (m + t) x
+
+pub rows : map computed expected ≡ map given expected
+unfolding computed given standIn tableFrom xor zeros pad shift double doubles blocks pairsOf even sum pairs body checksum te dataSum ta format tag sealed
+rows = refl

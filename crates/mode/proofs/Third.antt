@@ -1,0 +1,97 @@
+-- AES-OTR v3.1 with parallel data, over any cipher: its masks are masks, its TA has 16 bytes, and so the theorem about opening holds
+-- for it. Assumes nothing.
+use mathlib.Core.Path.{_≡_, refl, ap, _∙_}
+use mathlib.Core.Bool.{Bool, true, false}
+use mathlib.Core.List.{List, [], _∷_, _++_}
+use Prim.Native.Nat.{ℕ, zero, suc, _+_, _-_, _*_, _≤_}
+use native.Mathlib.Omega.{arith}
+use lib.Dec.{ltb}
+use lib.ListN.{length, drop, length-append, length-drop}
+use Rattle.lists.specs.Xor.{xor}
+use Rattle.lists.specs.Zeros.{zeros}
+use Rattle.lists.proofs.Zeros.{length-zeros}
+use Rattle.block.specs.Block.{pad, triple, tripleTwice}
+use Rattle.block.proofs.Blocks.{length-pad}
+use Rattle.block.proofs.Doubling.{length-double, length-triple, length-seven}
+use Rattle.mode.specs.Masks.{IsCipher, AreMasks, doubles, third}
+use Rattle.mode.specs.Message.{blocks, block}
+use Rattle.mode.specs.Data.{q, dataSum, dataFinal, dataEnd, ta}
+use Rattle.mode.specs.Nonce.{format}
+use Rattle.mode.specs.Sealing.{otr}
+use Rattle.mode.specs.Opening.{Opened, accepted, Allowed}
+use Rattle.mode.specs.Undoing.{opened}
+use Rattle.mode.proofs.Pairs.{length-block}
+use Rattle.mode.proofs.Tag.{xor-sixteen}
+use Rattle.mode.proofs.Opens as Opens
+
+pub length-doubles : (i : ℕ) (x : List ℕ) → length x ≡ 16 → length (doubles i x) ≡ 16
+unfolding doubles
+length-doubles zero x h = h
+length-doubles (suc i) x h = length-double (doubles i x) (length-doubles i x h)
+
+pub third-masks : (u : List ℕ) → length u ≡ 16 → AreMasks (third u)
+third-masks u h =
+    record {
+      left = λ i. length-doubles i u h;
+      right = λ i. length-doubles i (triple u) (length-triple u h);
+      ifShort = λ b hb. length-triple (triple b) (length-triple b hb);
+      ifFull = λ b hb. length-seven b hb;
+    }
+
+pub length-format : (t : ℕ) (n : List ℕ) → length n ≤ 14 → length (format t n) ≡ 16
+unfolding format
+length-format t n h =
+    omega (arith, length-append (zeros (14 - length n)) (1 ∷ n), length-zeros (14 - length n))
+
+-- ---- the data pass
+module _ (E : List ℕ → List ℕ) (e : IsCipher E) where
+  length-q : (i : ℕ) → length (q E i) ≡ 16
+  length-q i = length-doubles i (E (zeros 16)) (e (zeros 16) (length-zeros 16))
+
+  pub length-dataSum : (n : ℕ) (a : List ℕ) → 16 * n ≤ length a → length (dataSum E n a) ≡ 16
+  unfolding dataSum
+  length-dataSum zero a h = length-zeros 16
+  length-dataSum (suc n) a h =
+      xor-sixteen (dataSum E n a) (E (xor (q E n) (block a (16 * n)))) (length-dataSum n a (omega arith))
+      (e (xor (q E n) (block a (16 * n))) (xor-sixteen (q E n) (block a (16 * n)) (length-q n) (length-block a (16 * n) (omega arith))))
+
+  length-dataFinal : (t : Bool) (x : List ℕ) → length x ≡ 16 → length (dataFinal E t x) ≡ 16
+  length-dataFinal true x h = length-triple x h
+  length-dataFinal false x h = length-triple (triple x) (length-triple x h)
+
+  length-dataEnd : (n : ℕ) (a x : List ℕ) → 16 * n ≤ length a → length x ≤ 16 → length (dataEnd E n a x) ≡ 16
+  length-dataEnd n a x h hx =
+      let mask = dataFinal E (ltb (length x) 16) (q E n) in
+      e (xor mask (xor (dataSum E n a) (pad x)))
+      (xor-sixteen mask (xor (dataSum E n a) (pad x)) (length-dataFinal (ltb (length x) 16) (q E n) (length-q n))
+      (xor-sixteen (dataSum E n a) (pad x) (length-dataSum n a h) (length-pad x hx)))
+
+  pub length-ta : (a : List ℕ) → length (ta E a) ≡ 16
+  unfolding ta blocks
+  length-ta [] = length-zeros 16
+  length-ta (b ∷ bs) =
+      let n = blocks (length (b ∷ bs)) - 1 in
+      length-dataEnd n (b ∷ bs) (drop (16 * n) (b ∷ bs)) (omega arith) (omega (arith, length-drop (16 * n) (b ∷ bs)))
+
+-- ---- the theorem about opening, for v3.1
+module _ (E : List ℕ → List ℕ) (e : IsCipher E) (nonce ad : List ℕ) (t : ℕ) (hn : length nonce ≤ 14) (ht : t ≤ 16) where
+  u-masks : AreMasks (third (E (format t nonce)))
+  u-masks = third-masks (E (format t nonce)) (e (format t nonce) (length-format t nonce hn))
+
+  abbrev opened-otr : List ℕ → Opened
+  opened-otr = opened E (third (E (format t nonce))) (ta E ad) t
+
+  pub length-otr : (m : List ℕ) → length (otr E nonce ad t m) ≡ length m + t
+  length-otr = Opens.length-sealed E e (third (E (format t nonce))) u-masks (ta E ad) (length-ta E e ad) t ht
+
+  pub otr-injective : (m n : List ℕ) → otr E nonce ad t m ≡ otr E nonce ad t n → m ≡ n
+  otr-injective = Opens.injective E e (third (E (format t nonce))) u-masks (ta E ad) (length-ta E e ad) t ht
+
+  pub otr-opens : (x : List ℕ) → t ≤ length x → Allowed (otr E nonce ad t) x (opened-otr x)
+  otr-opens = Opens.opens E e (third (E (format t nonce))) u-masks (ta E ad) (length-ta E e ad) t ht
+
+  pub otr-one-answer : (x : List ℕ) (o p : Opened) → Allowed (otr E nonce ad t) x o → Allowed (otr E nonce ad t) x p → o ≡ p
+  otr-one-answer = Opens.one-answer E e (third (E (format t nonce))) u-masks (ta E ad) (length-ta E e ad) t ht
+
+  pub otr-round-trip : (m : List ℕ) → opened-otr (otr E nonce ad t m) ≡ accepted m
+  otr-round-trip = Opens.round-trip E e (third (E (format t nonce))) u-masks (ta E ad) (length-ta E e ad) t ht

@@ -1,0 +1,41 @@
+-- How opening finds its answer. No promise needs this file: what opening promises is said by sealing alone (Opening.antt).
+use mathlib.Core.Bool.{Bool, true, false}
+use mathlib.Core.List.{List, _++_}
+use Prim.Native.Nat.{ℕ, _-_}
+use lib.ListN.{length, take, drop}
+use Rattle.lists.specs.Same.{same}
+use Rattle.lists.specs.Xor.{xor}
+use Rattle.block.specs.Block.{pad}
+use Rattle.mode.specs.Masks.{Masks}
+use Rattle.mode.specs.Message.{pairsOf, even, rest, half, pairs}
+use Rattle.mode.specs.Sealing.{tag}
+use Rattle.mode.specs.Opening.{Opened, accepted, refused}
+
+-- a pair is undone by the pair step with its masks exchanged
+abbrev pub swapped : Masks → Masks
+swapped k = record { left = k .right; right = k .left; ifShort = k .ifShort; ifFull = k .ifFull }
+
+module _ (E : List ℕ → List ℕ) (k : Masks) where
+  -- the first of the two last blocks
+  abbrev pub first : ℕ → List ℕ → List ℕ
+  first n x = half E (k .right n) (pad (drop 16 x)) (take 16 x)
+
+  abbrev pub unending : Bool → ℕ → List ℕ → List ℕ
+  unending true n x = first n x ++ half E (k .left n) (first n x) (drop 16 x)
+  unending false n x = xor x (E (k .left n))
+
+  unfoldable pub unbody : List ℕ → List ℕ
+  unbody c =
+      pairs E (swapped k) (pairsOf (length c)) c ++ unending (even (length c)) (pairsOf (length c)) (rest c)
+
+abbrev pub answer : Bool → List ℕ → Opened
+answer true m = accepted m
+answer false m = refused
+
+-- the last t bytes are the tag of what the others undo to, or the answer is refused
+module _ (E : List ℕ → List ℕ) (k : Masks) (a : List ℕ) (t : ℕ) where
+  abbrev pub plain : List ℕ → List ℕ
+  plain s = unbody E k (take (length s - t) s)
+
+  unfoldable pub opened : List ℕ → Opened
+  opened s = answer (same (tag E k a t (plain s)) (drop (length s - t) s)) (plain s)
