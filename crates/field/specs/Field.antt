@@ -21,14 +21,12 @@ productOf (suc n) a b = bitXor (a % 2 * b) (productOf n (a / 2) (xtime b))
 unfoldable pub product : ℕ → ℕ → ℕ
 product a b = productOf 8 a b
 
--- the inverse, by Fermat: x²⁵⁴ = x² · x⁴ · .. · x¹²⁸, and 0 goes to 0 (FIPS 197, 5.1.1)
-abbrev pub square : ℕ → ℕ
-square b = product b b
-
--- x² · x⁴ · .. , the n powers that begin at b²
+-- the inverse (FIPS 197, 5.1.1: 0 goes to 0), by Fermat: x²⁵⁴ = x² · x⁴ · .. · x¹²⁸. The n squares that begin with b²
 abbrev pub squares : ℕ → ℕ → ℕ
 squares zero b = 1
-squares (suc n) b = product (square b) (squares n (square b))
+squares (suc n) b =
+    let s = product b b in
+    product s (squares n s)
 
 unfoldable pub inverse : ℕ → ℕ
 inverse b = squares 7 b

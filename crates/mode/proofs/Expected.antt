@@ -1,5 +1,5 @@
--- Made by tools/expected-rows from the second program's `standin`; tools/test makes it anew and compares. A row is the message's
--- length, the data's, k, t, and the sealed bytes as one number.
+-- Made by tools/expected-rows from the second program's `standin`; tools/test makes it anew and compares. A row is the lengths of
+-- the key (only with AES), the message, the data and the nonce, t, and the sealed bytes as one number.
 use mathlib.Core.List.{List, [], _∷_}
 use Prim.Native.Nat.{ℕ}
 

@@ -1,3 +1,5 @@
+pub mod Expected
+pub mod Agreement
 pub mod Counts
 pub mod Pairs
 pub mod Ends
@@ -5,5 +7,3 @@ pub mod Walk
 pub mod Tag
 pub mod Opens
 pub mod Third
-pub mod Expected
-pub mod StandIn

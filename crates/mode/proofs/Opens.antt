@@ -1,6 +1,7 @@
 -- Opening, stated over sealing alone: for every cipher, all masks, every TA of 16 bytes and every t up to 16. Assumes nothing.
 use mathlib.Core.Path.{_≡_, refl, sym, ap, ap₂, _∙_}
 use mathlib.Core.Bool.{Bool, true, false}
+use mathlib.Core.Logic.{_⊎_, inl, inr}
 use mathlib.Core.List.{List, _++_}
 use Prim.Native.Nat.{ℕ, _+_, _-_, _≤_}
 use native.Mathlib.Omega.{arith}
@@ -73,3 +74,15 @@ module _ (E : List ℕ → List ℕ) (e : IsCipher E) (k : Masks) (s : AreMasks 
 
   pub round-trip : (m : List ℕ) → opened E k a t (sealed E k a t m) ≡ accepted m
   round-trip m = sym (only (sealed E k a t m) (accepted m) (omega (arith, length-sealed m)) refl)
+
+  -- the same in one statement: exactly one message seals to the string, and opening finds it; or none does, and opening refuses
+  pub opening : (x : List ℕ) → t ≤ length x
+      → ((m : List ℕ) × (sealed E k a t m ≡ x) × ((n : List ℕ) → sealed E k a t n ≡ x → n ≡ m) × (opened E k a t x ≡ accepted m))
+      ⊎ (((m : List ℕ) → sealed E k a t m ≡ x → ⊥) × (opened E k a t x ≡ refused))
+  opening x h = go (opened E k a t x) refl (opens x h)
+    where
+      go : (o : Opened) → opened E k a t x ≡ o → Allowed (sealed E k a t) x o
+          → ((m : List ℕ) × (sealed E k a t m ≡ x) × ((n : List ℕ) → sealed E k a t n ≡ x → n ≡ m) × (opened E k a t x ≡ accepted m))
+          ⊎ (((m : List ℕ) → sealed E k a t m ≡ x → ⊥) × (opened E k a t x ≡ refused))
+      go (accepted m) e q = inl (m, q, λ n r. injective n m (r ∙ sym q), e)
+      go refused e q = inr (q, e)

@@ -4,7 +4,6 @@ use mathlib.Core.Bool.{Bool, true, false}
 use mathlib.Core.List.{List}
 use Prim.Native.Nat.{ℕ, zero, suc, _+_, _*_, _≤_}
 use native.Mathlib.Omega.{arith}
-use lib.Dec.{ltb}
 use lib.ListN.{length, take, drop, length-drop}
 use lib.Seq.{length-take-le}
 use Rattle.lists.specs.Xor.{xor}
@@ -13,7 +12,7 @@ use Rattle.lists.proofs.Zeros.{length-zeros}
 use Rattle.block.specs.Block.{pad}
 use Rattle.block.proofs.Blocks.{length-pad}
 use Rattle.mode.specs.Masks.{Masks, IsCipher, AreMasks}
-use Rattle.mode.specs.Message.{pairsOf, even, block, rest, lastBlock, sum, z, last, endSum, base, final, checksum, te}
+use Rattle.mode.specs.Message.{pairsOf, even, block, rest, short, sum, z, last, endSum, base, final, checksum, te}
 use Rattle.mode.specs.Sealing.{tag}
 use Rattle.mode.proofs.Counts.{pairs-within}
 use Rattle.mode.proofs.Pairs.{length-block, length-inner}
@@ -56,10 +55,9 @@ module _ (E : List ℕ → List ℕ) (e : IsCipher E) (k : Masks) (s : AreMasks 
   unfolding te
   length-te m =
       let b = base E k (even (length m)) (pairsOf (length m)) in
-      let short = ltb (length (lastBlock (even (length m)) (rest m))) 16 in
-      e (xor (final E k short b) (checksum E k m))
-      (xor-sixteen (final E k short b) (checksum E k m)
-      (length-final short b (length-base (even (length m)) (pairsOf (length m))))
+      e (xor (final E k (short m) b) (checksum E k m))
+      (xor-sixteen (final E k (short m) b) (checksum E k m)
+      (length-final (short m) b (length-base (even (length m)) (pairsOf (length m))))
       (length-checksum m))
 
   pub length-tag : (a : List ℕ) (t : ℕ) → length a ≡ 16 → t ≤ 16 → (m : List ℕ) → length (tag E k a t m) ≡ t

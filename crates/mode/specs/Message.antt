@@ -25,13 +25,16 @@ even b = eqb (blocks b % 2) 0
 abbrev pub block : List ℕ → ℕ → List ℕ
 block m i = take 16 (drop i m)
 
--- what remains behind the pairs, and the last block of it
+-- what remains behind the pairs, the last block of it, and whether that has fewer than 16 bytes
 abbrev pub rest : List ℕ → List ℕ
 rest m = drop (32 * pairsOf (length m)) m
 
 abbrev pub lastBlock : Bool → List ℕ → List ℕ
 lastBlock true x = drop 16 x
 lastBlock false x = x
+
+unfoldable pub short : List ℕ → Bool
+short m = ltb (length (lastBlock (even (length m)) (rest m))) 16
 
 -- lines 1 and 7: the even blocks of the first n pairs
 unfoldable pub sum : ℕ → List ℕ → List ℕ
@@ -89,7 +92,4 @@ module _ (E : List ℕ → List ℕ) (k : Masks) where
   checksum m = xor (sum (pairsOf (length m)) m) (endSum (even (length m)) (pairsOf (length m)) (rest m))
 
   unfoldable pub te : List ℕ → List ℕ
-  te m =
-      E
-      (xor (final (ltb (length (lastBlock (even (length m)) (rest m))) 16) (base (even (length m)) (pairsOf (length m))))
-      (checksum m))
+  te m = E (xor (final (short m) (base (even (length m)) (pairsOf (length m)))) (checksum m))

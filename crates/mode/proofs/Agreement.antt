@@ -1,4 +1,5 @@
--- The definitions computed over a small stand-in cipher, held to what the second program gives. Assumes nothing.
+-- The definitions computed: over a small stand-in cipher, held to what the second program gives; and the nonce block, held to rows
+-- W8 to W10 of document 01. Assumes nothing.
 use mathlib.Core.Path.{_≡_, refl}
 use mathlib.Core.List.{List, [], _∷_, map}
 use Prim.Native.Nat.{ℕ, _+_, _*_, _%_}
@@ -9,7 +10,7 @@ use Rattle.lists.specs.Xor.{xor}
 use Rattle.lists.specs.Zeros.{zeros}
 use Rattle.block.specs.Block.{pad, shift, double}
 use Rattle.mode.specs.Masks.{doubles}
-use Rattle.mode.specs.Message.{blocks, pairsOf, even, sum, pairs, body, checksum, te}
+use Rattle.mode.specs.Message.{blocks, pairsOf, even, short, sum, pairs, body, checksum, te}
 use Rattle.mode.specs.Data.{dataSum, ta}
 use Rattle.mode.specs.Nonce.{format}
 use Rattle.mode.specs.Sealing.{tag, sealed, otr}
@@ -28,5 +29,11 @@ pub given : Row → List ℕ
 given (m, a, k, t, x) = bytes (m + t) x
 
 pub rows : map computed expected ≡ map given expected
-unfolding computed given standIn tableFrom xor zeros pad shift double doubles blocks pairsOf even sum pairs body checksum te dataSum ta format tag sealed
+unfolding computed given standIn tableFrom xor zeros pad shift double doubles blocks pairsOf even short sum pairs body checksum te dataSum ta format tag sealed
 rows = refl
+
+-- W8, W9 and W10
+pub nonces : format 16 (bytes 12 0xa0a1a2a3a4a5a6a7a8a9aaab) ∷ format 4 (bytes 12 0xa0a1a2a3a4a5a6a7a8a9aaab) ∷ format 8 (bytes 1 0xab) ∷ []
+    ≡ bytes 16 0x00000001a0a1a2a3a4a5a6a7a8a9aaab ∷ bytes 16 0x40000001a0a1a2a3a4a5a6a7a8a9aaab ∷ bytes 16 0x800000000000000000000000000001ab ∷ []
+unfolding zeros format
+nonces = refl

@@ -1,0 +1,45 @@
+-- AES-OTR v3.1 with AES in the cipher's place, computed and held to what the second program gives. Each row is computed by itself,
+-- since both pass what antt computes in one declaration; `rows` is the one claim. Assumes nothing.
+use mathlib.Core.Path.{_≡_, refl, ap₂}
+use mathlib.Core.List.{List, [], _∷_, map}
+use Prim.Native.Nat.{ℕ, _+_, _*_, _%_}
+use lib.ListN.{getD}
+use Rattle.lists.specs.Hex.{bytes}
+use Rattle.lists.specs.Table.{table, tableFrom}
+use Rattle.lists.specs.Xor.{xor}
+use Rattle.lists.specs.Zeros.{zeros}
+use Rattle.field.specs.Field.{product, inverse}
+use Rattle.field.specs.Substitution.{affine, substitute}
+use Rattle.aes.specs.Cipher.{addRoundKey, round, lastRound, rounds, cipher}
+use Rattle.aes.specs.Expansion.{power, temp, next, words, keyExpansion, aes}
+use Rattle.block.specs.Block.{pad, shift, double}
+use Rattle.mode.specs.Masks.{doubles}
+use Rattle.mode.specs.Message.{blocks, pairsOf, even, short, sum, pairs, body, checksum, te}
+use Rattle.mode.specs.Data.{dataSum, ta}
+use Rattle.mode.specs.Nonce.{format}
+use Rattle.mode.specs.Sealing.{tag, sealed, otr}
+use Rattle.rows.proofs.Expected.{Row, expected}
+
+-- byte i of the key is 17i + 2, of the message 7i + 3, of the data 11i + 5, of the nonce 13i + 1
+pub computed : Row → List ℕ
+computed (key, m, a, k, t, x) =
+    otr (aes (table (λ i. (17 * i + 2) % 256) key)) (table (λ i. (13 * i + 1) % 256) k) (table (λ i. (11 * i + 5) % 256) a) t
+    (table (λ i. (7 * i + 3) % 256) m)
+
+pub given : Row → List ℕ
+given (key, m, a, k, t, x) = bytes (m + t) x
+
+row-at : ℕ → Row
+row-at i = getD expected i (0, 0, 0, 0, 0, 0)
+
+row-0 : computed (row-at 0) ≡ given (row-at 0)
+unfolding row-at computed given tableFrom xor zeros product inverse affine substitute addRoundKey round lastRound rounds cipher power temp next words keyExpansion aes pad shift double doubles blocks pairsOf even short sum pairs body checksum te dataSum ta format tag sealed
+row-0 = refl
+
+row-1 : computed (row-at 1) ≡ given (row-at 1)
+unfolding row-at computed given tableFrom xor zeros product inverse affine substitute addRoundKey round lastRound rounds cipher power temp next words keyExpansion aes pad shift double doubles blocks pairsOf even short sum pairs body checksum te dataSum ta format tag sealed
+row-1 = refl
+
+pub rows : map computed expected ≡ map given expected
+unfolding row-at
+rows = ap₂ _∷_ row-0 (ap₂ _∷_ row-1 refl)

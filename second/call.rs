@@ -1,0 +1,91 @@
+//! The call level: 01, "Numbers a call may carry" and "What comes back".
+
+use crate::aes::Aes;
+use crate::otr::{otr_d, otr_e};
+
+pub const DATA_MAX: usize = 4_096;
+pub const MESSAGE_MAX: usize = 16_384;
+
+pub struct Answer {
+    pub number: u8,
+    pub length: usize,
+}
+
+pub fn seal(
+    key: &[u8],
+    nonce: &[u8],
+    data: &[u8],
+    message: &[u8],
+    t: usize,
+    output: &mut [u8],
+) -> Answer {
+    let Some(aes) = Aes::new(key) else {
+        return refused(1);
+    };
+    if let Some(number) = refusal_2_to_4(nonce, data, t) {
+        return refused(number);
+    }
+    if message.len() > MESSAGE_MAX {
+        return refused(5);
+    }
+    if output.len() < message.len() + t {
+        return refused(6);
+    }
+    let (c, tag) = otr_e(&|b| aes.cipher(b), t, nonce, data, message);
+    done(&[c, tag].concat(), output)
+}
+
+pub fn open(
+    key: &[u8],
+    nonce: &[u8],
+    data: &[u8],
+    sealed: &[u8],
+    t: usize,
+    output: &mut [u8],
+) -> Answer {
+    let Some(aes) = Aes::new(key) else {
+        return refused(1);
+    };
+    if let Some(number) = refusal_2_to_4(nonce, data, t) {
+        return refused(number);
+    }
+    if sealed.len() < t || sealed.len() > MESSAGE_MAX + t {
+        return refused(5);
+    }
+    let message_bytes = sealed.len() - t;
+    if output.len() < message_bytes {
+        return refused(6);
+    }
+    let (c, tag) = sealed.split_at(message_bytes);
+    match otr_d(&|b| aes.cipher(b), nonce, data, c, tag) {
+        Some(message) => done(&message, output),
+        None => {
+            output[..message_bytes].fill(0);
+            refused(7)
+        }
+    }
+}
+
+fn refusal_2_to_4(nonce: &[u8], data: &[u8], t: usize) -> Option<u8> {
+    if !(1..=14).contains(&nonce.len()) {
+        Some(2)
+    } else if !(4..=16).contains(&t) {
+        Some(3)
+    } else if data.len() > DATA_MAX {
+        Some(4)
+    } else {
+        None
+    }
+}
+
+fn refused(number: u8) -> Answer {
+    Answer { number, length: 0 }
+}
+
+fn done(result: &[u8], output: &mut [u8]) -> Answer {
+    output[..result.len()].copy_from_slice(result);
+    Answer {
+        number: 0,
+        length: result.len(),
+    }
+}

@@ -1,0 +1,79 @@
+//! Shaftladder's independent second program: AES-OTR v3.1 with parallel ADP,
+//! written from the paper (000) and the exact rules (01) alone. See README.md.
+
+mod aes;
+mod aes_rows;
+mod block;
+mod call;
+mod failure;
+mod generator;
+mod hex;
+mod known;
+mod otr;
+mod random_requests;
+mod request;
+mod requests;
+mod rows;
+mod rules;
+mod seam_lengths;
+mod seam_requests;
+mod standin;
+#[cfg(test)]
+mod tests;
+
+use std::env;
+use std::io::{self, Write};
+use std::process::ExitCode;
+
+use failure::{bad_input, Failure};
+
+fn main() -> ExitCode {
+    match arguments()
+        .and_then(|words| run(&words))
+        .and_then(|text| print(&text))
+    {
+        Ok(()) => ExitCode::SUCCESS,
+        Err(failure) => {
+            // Where stderr itself is closed the status alone has to tell.
+            let _ = writeln!(io::stderr(), "{}", failure.text);
+            ExitCode::from(failure.status)
+        }
+    }
+}
+
+fn arguments() -> Result<Vec<String>, Failure> {
+    let not_text = |_| bad_input("an argument is not text".to_string());
+    env::args_os()
+        .skip(1)
+        .map(|word| word.into_string().map_err(not_text))
+        .collect()
+}
+
+fn run(words: &[String]) -> Result<String, Failure> {
+    let Some((command, rest)) = words.split_first() else {
+        return Err(usage());
+    };
+    match (command.as_str(), rest) {
+        ("standin", []) => Ok(standin::command()),
+        ("aes-rows", []) => Ok(aes_rows::command_aes_rows()),
+        ("seams", []) => Ok(aes_rows::command_seams()),
+        ("requests", _) => requests::command(rest),
+        ("known", _) => known::command(rest),
+        _ => Err(usage()),
+    }
+}
+
+fn usage() -> Failure {
+    let text = "usage: second standin\n\
+                \u{20}      second aes-rows\n\
+                \u{20}      second seams\n\
+                \u{20}      second requests SEED COUNT FILE_REQUESTS FILE_ANSWERS\n\
+                \u{20}      second known FILE...";
+    bad_input(text.to_string())
+}
+
+fn print(text: &str) -> Result<(), Failure> {
+    io::stdout()
+        .write_all(text.as_bytes())
+        .map_err(|error| bad_input(format!("standard output: {error}")))
+}

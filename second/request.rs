@@ -1,0 +1,83 @@
+//! One request to the library, and the answer that it must give.
+
+use crate::call::{open, seal, Answer};
+use crate::hex;
+
+/// What the output buffer holds everywhere before the call.
+const FILL: u8 = 0xa5;
+
+#[derive(Clone, Copy, PartialEq)]
+pub enum Kind {
+    Seal,
+    Open,
+}
+
+#[derive(Clone)]
+pub struct Request {
+    pub kind: Kind,
+    pub key: Vec<u8>,
+    pub nonce: Vec<u8>,
+    pub data: Vec<u8>,
+    /// The message when sealing, the sealed bytes when opening.
+    pub body: Vec<u8>,
+    pub t: usize,
+    pub room: usize,
+}
+
+impl Request {
+    /// The answer and the complete output buffer after the call.
+    pub fn call(&self) -> (Answer, Vec<u8>) {
+        let mut output = vec![FILL; self.room];
+        let call = match self.kind {
+            Kind::Seal => seal,
+            Kind::Open => open,
+        };
+        let answer = call(
+            &self.key,
+            &self.nonce,
+            &self.data,
+            &self.body,
+            self.t,
+            &mut output,
+        );
+        (answer, output)
+    }
+
+    /// For a sealing that succeeds: the opening of what it wrote, with exact room.
+    pub fn opening(&self) -> Option<Request> {
+        let (answer, mut output) = self.call();
+        if answer.number != 0 {
+            return None;
+        }
+        output.truncate(answer.length);
+        let room = self.body.len();
+        Some(Request {
+            kind: Kind::Open,
+            body: output,
+            room,
+            ..self.clone()
+        })
+    }
+
+    /// `seal|open KEY NONCE DATA BODY TAG ROOM` and the end of the line.
+    pub fn request_line(&self) -> String {
+        let name = match self.kind {
+            Kind::Seal => "seal",
+            Kind::Open => "open",
+        };
+        let strings = [&self.key, &self.nonce, &self.data, &self.body];
+        let fields = strings.map(|bytes| hex::field(bytes)).join(" ");
+        format!("{name} {fields} {} {}\n", self.t, self.room)
+    }
+
+    /// `NUMBER LENGTH OUTPUT` and the end of the line.
+    pub fn answer_line(&self) -> String {
+        let (answer, output) = self.call();
+        format!(
+            "{} {} {}\n",
+            answer.number,
+            answer.length,
+            hex::field(&output)
+        )
+    }
+}

@@ -1,0 +1,45 @@
+//! The command `requests`: the file of requests and the file of answers.
+
+use std::fs;
+
+use crate::failure::{bad_input, Failure};
+use crate::generator::Generator;
+use crate::random_requests::random_request;
+use crate::seam_requests::seam_requests;
+
+/// All requests are held in memory.
+const COUNT_MAX: u64 = 100_000;
+
+pub fn command(arguments: &[String]) -> Result<String, Failure> {
+    let [seed, count, file_requests, file_answers] = arguments else {
+        let usage = "requests: expected SEED COUNT FILE_REQUESTS FILE_ANSWERS";
+        return Err(bad_input(usage.to_string()));
+    };
+    let draw = &mut Generator::new(number("SEED", seed)?);
+    let count = number("COUNT", count)?;
+    if count > COUNT_MAX {
+        return Err(bad_input(format!("requests: COUNT is over {COUNT_MAX}")));
+    }
+    let mut requests = seam_requests();
+    requests.extend((0..count).map(|_| random_request(draw)));
+    let request_lines: String = requests
+        .iter()
+        .map(|request| request.request_line())
+        .collect();
+    let answer_lines: String = requests
+        .iter()
+        .map(|request| request.answer_line())
+        .collect();
+    write(file_requests, &request_lines)?;
+    write(file_answers, &answer_lines)?;
+    Ok(format!("requests {}\n", requests.len()))
+}
+
+fn number(name: &str, text: &str) -> Result<u64, Failure> {
+    text.parse()
+        .map_err(|_| bad_input(format!("requests: {name} is not a number: {text}")))
+}
+
+fn write(file: &str, lines: &str) -> Result<(), Failure> {
+    fs::write(file, lines).map_err(|error| bad_input(format!("{file}: {error}")))
+}

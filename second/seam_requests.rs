@@ -1,0 +1,158 @@
+//! The requests at the seams: always the same, whatever the seed.
+
+use crate::call::{DATA_MAX, MESSAGE_MAX};
+use crate::generator::Generator;
+use crate::request::{Kind, Request};
+use crate::seam_lengths::{seam_lengths, Lengths, USUAL};
+
+const SEED: u64 = u64::MAX;
+const AMPLE: usize = 37;
+const ROOM_MAX: usize = 20_480;
+
+pub fn seam_requests() -> Vec<Request> {
+    let draw = &mut Generator::new(SEED);
+    let mut requests = Vec::new();
+    for lengths in seam_lengths() {
+        requests.extend(around(draw, lengths));
+    }
+    requests.extend(shortest_sealed(draw));
+    requests.extend(two_faults(draw, Kind::Seal));
+    requests.extend(two_faults(draw, Kind::Open));
+    requests.extend(largest_room(draw));
+    requests
+}
+
+/// A sealing with exact room.
+fn sealing(draw: &mut Generator, lengths: Lengths) -> Request {
+    Request {
+        kind: Kind::Seal,
+        key: draw.bytes(lengths.key),
+        nonce: draw.bytes(lengths.nonce),
+        data: draw.bytes(lengths.data),
+        body: draw.bytes(lengths.message),
+        t: lengths.t,
+        room: lengths.message + lengths.t,
+    }
+}
+
+/// The sealing in three rooms, its openings in three rooms, and those with room enough
+/// again with one bit changed. Where the sealing is refused: an opening of other bytes
+/// with the same lengths.
+fn around(draw: &mut Generator, lengths: Lengths) -> Vec<Request> {
+    let sealing = sealing(draw, lengths);
+    let mut requests = three_rooms(&sealing);
+    match sealing.opening() {
+        Some(opening) => {
+            for opening in three_rooms(&opening) {
+                requests.push(opening.clone());
+                if opening.room >= lengths.message {
+                    requests.extend(one_bit_changed(draw, &opening));
+                }
+            }
+        }
+        None => requests.push(Request {
+            kind: Kind::Open,
+            body: draw.bytes(lengths.message + lengths.t),
+            room: lengths.message,
+            ..sealing
+        }),
+    }
+    requests
+}
+
+/// One short (where that is not negative), exact and ample, from exact.
+fn three_rooms(request: &Request) -> Vec<Request> {
+    let exact = request.room;
+    let rooms = exact
+        .checked_sub(1)
+        .into_iter()
+        .chain([exact, exact + AMPLE]);
+    rooms
+        .map(|room| Request {
+            room,
+            ..request.clone()
+        })
+        .collect()
+}
+
+/// The opening with one bit changed in each string that has one.
+fn one_bit_changed(draw: &mut Generator, opening: &Request) -> Vec<Request> {
+    let message_bytes = opening.body.len() - opening.t;
+    let mut list = Vec::new();
+    for string in 0..5 {
+        let mut damaged = opening.clone();
+        let (ciphertext, tag) = damaged.body.split_at_mut(message_bytes);
+        let bytes = match string {
+            0 => ciphertext,
+            1 => tag,
+            2 => &mut damaged.nonce,
+            3 => &mut damaged.data,
+            _ => &mut damaged.key,
+        };
+        if !bytes.is_empty() {
+            draw.change_bit(bytes);
+            list.push(damaged);
+        }
+    }
+    list
+}
+
+/// Openings of 0, t - 1 and t bytes that nobody sealed.
+fn shortest_sealed(draw: &mut Generator) -> Vec<Request> {
+    let mut list = Vec::new();
+    for t in 4..=16 {
+        for (sealed, room) in [(0, 0), (t - 1, 0), (t - 1, 7), (t, 0), (t, 7)] {
+            let body = draw.bytes(sealed);
+            let sealing = sealing(draw, Lengths { t, ..USUAL });
+            list.push(Request {
+                kind: Kind::Open,
+                body,
+                room,
+                ..sealing
+            });
+        }
+    }
+    list
+}
+
+/// Every fault alone and every two together: the lower number is the answer.
+fn two_faults(draw: &mut Generator, kind: Kind) -> Vec<Request> {
+    let mut list = Vec::new();
+    for lower in 1..=6 {
+        for higher in lower..=6 {
+            let sealing = sealing(draw, USUAL);
+            let mut request = match (kind, sealing.opening()) {
+                (Kind::Open, Some(opening)) => opening,
+                _ => sealing,
+            };
+            add_fault(draw, &mut request, lower);
+            add_fault(draw, &mut request, higher);
+            list.push(request);
+        }
+    }
+    list
+}
+
+fn add_fault(draw: &mut Generator, request: &mut Request, number: u8) {
+    match number {
+        1 => request.key = draw.bytes(17),
+        2 => request.nonce = draw.bytes(15),
+        3 => request.t = 3,
+        4 => request.data = draw.bytes(DATA_MAX + 1),
+        5 => request.body = draw.bytes(MESSAGE_MAX + 17),
+        _ => request.room = 0,
+    }
+}
+
+/// A sealing, its opening, and that with the key changed, in the largest room.
+fn largest_room(draw: &mut Generator) -> Vec<Request> {
+    let mut list = vec![sealing(draw, USUAL)];
+    if let Some(opening) = list[0].opening() {
+        list.push(opening.clone());
+        list.extend(one_bit_changed(draw, &opening).pop());
+    }
+    for request in &mut list {
+        request.room = ROOM_MAX;
+    }
+    list
+}

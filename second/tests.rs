@@ -1,0 +1,120 @@
+//! The program's own tests: `rustc --test`.
+
+use crate::aes::{substitute, Aes};
+use crate::block::{double, pad, times_3_squared, times_7, Block, BLOCK_BYTES};
+use crate::call::{open, seal};
+use crate::hex;
+use crate::otr::{format, otr_d, otr_e};
+use crate::rules;
+use crate::standin::stand_in;
+
+fn bytes(text: &str) -> Vec<u8> {
+    hex::decode(text).unwrap()
+}
+
+fn block(text: &str) -> Block {
+    bytes(text).try_into().unwrap()
+}
+
+fn check_aes(key: &str, plaintext: &str, ciphertext: &str) {
+    let aes = Aes::new(&bytes(key)).unwrap();
+    assert_eq!(hex::encode(&aes.cipher(&block(plaintext))), ciphertext);
+}
+
+#[test]
+fn fips_197_examples() {
+    check_aes(
+        "2b7e151628aed2a6abf7158809cf4f3c",
+        "3243f6a8885a308d313198a2e0370734",
+        "3925841d02dc09fbdc118597196a0b32",
+    );
+    let plaintext = "00112233445566778899aabbccddeeff";
+    check_aes(
+        "000102030405060708090a0b0c0d0e0f",
+        plaintext,
+        "69c4e0d86a7b0430d8cdb78070b4c55a",
+    );
+    check_aes(
+        "000102030405060708090a0b0c0d0e0f1011121314151617",
+        plaintext,
+        "dda97ca4864cdfe06eaf70a0ec0d7191",
+    );
+    check_aes(
+        "000102030405060708090a0b0c0d0e0f101112131415161718191a1b1c1d1e1f",
+        plaintext,
+        "8ea2b7ca516745bfeafc49904b496089",
+    );
+}
+
+/// Rows W1 to W12 of 01.
+#[test]
+fn small_rows() {
+    let one = block("00000000000000000000000000000001");
+    assert_eq!(pad(&[]), block("80000000000000000000000000000000"));
+    assert_eq!(pad(&[0xaa; 15]), block("aaaaaaaaaaaaaaaaaaaaaaaaaaaaaa80"));
+    assert_eq!(double(&one), block("00000000000000000000000000000002"));
+    assert_eq!(double(&pad(&[])), block("00000000000000000000000000000087"));
+    assert_eq!(
+        double(&[0xff; 16]),
+        block("ffffffffffffffffffffffffffffff79")
+    );
+    assert_eq!(
+        times_3_squared(&one),
+        block("00000000000000000000000000000005")
+    );
+    assert_eq!(times_7(&one), block("00000000000000000000000000000007"));
+    assert_eq!(
+        format(16, &[0xcd; 12]),
+        block("00000001cdcdcdcdcdcdcdcdcdcdcdcd")
+    );
+    assert_eq!(
+        format(4, &[0xcd; 12]),
+        block("40000001cdcdcdcdcdcdcdcdcdcdcdcd")
+    );
+    assert_eq!(
+        format(8, &[0xab]),
+        block("800000000000000000000000000001ab")
+    );
+    assert_eq!(substitute(0x00), 0x63);
+    assert_eq!(substitute(0x53), 0xed);
+}
+
+#[test]
+fn opening_undoes_sealing() {
+    let (n, a) = (rules::nonce(12), rules::data(17));
+    for len in 0..200 {
+        let m = rules::message(len);
+        let (c, tag) = otr_e(&stand_in, 16, &n, &a, &m);
+        assert_eq!((c.len(), tag.len()), (len, BLOCK_BYTES));
+        assert_eq!(otr_d(&stand_in, &n, &a, &c, &tag), Some(m));
+    }
+}
+
+#[test]
+fn every_changed_bit_is_refused_and_the_output_zeroed() {
+    let (key, nonce, data) = (rules::key(24), rules::nonce(14), rules::data(5));
+    for len in [0, 1, 16, 17, 32, 33, 48, 49] {
+        let mut sealed = vec![0xa5; len + 12];
+        let answer = seal(&key, &nonce, &data, &rules::message(len), 12, &mut sealed);
+        assert_eq!((answer.number, answer.length), (0, len + 12));
+        for bit in 0..8 * sealed.len() {
+            sealed[bit / 8] ^= 1 << (bit % 8);
+            let mut output = vec![0xa5; len + 3];
+            let answer = open(&key, &nonce, &data, &sealed, 12, &mut output);
+            assert_eq!((answer.number, answer.length), (7, 0));
+            assert_eq!(output, [vec![0; len], vec![0xa5; 3]].concat());
+            sealed[bit / 8] ^= 1 << (bit % 8);
+        }
+    }
+}
+
+/// For one short odd block TE = E(3^2 L xor padded M), L = E(Format): 01 by hand.
+#[test]
+fn empty_message_is_one_short_block() {
+    let u = stand_in(&format(16, &rules::nonce(12)));
+    let mut input = times_3_squared(&u);
+    input[0] ^= 0x80;
+    let (c, tag) = otr_e(&stand_in, 16, &rules::nonce(12), &[], &[]);
+    assert!(c.is_empty());
+    assert_eq!(tag, stand_in(&input));
+}
