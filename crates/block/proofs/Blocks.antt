@@ -25,6 +25,10 @@ filled-whole x h = lay-whole x (zeros 16) (omega (arith, length-zeros 16))
 pub take-filled : (x : List ℕ) → take (length x) (filled x) ≡ x
 take-filled x = take-append-seam x (drop (0 + length x) (zeros 16))
 
+-- the part again, by its length
+pub part-filled : (x : List ℕ) (n : ℕ) → length x ≡ n → take n (filled x) ≡ x
+part-filled x n h = ap (λ (k : ℕ). take k (filled x)) (sym h) ∙ take-filled x
+
 -- ---- padding
 pub pad-short : (x : List ℕ) → length x < 16 → pad x ≡ filled (x ++ (0x80 ∷ []))
 unfolding pad

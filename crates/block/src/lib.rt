@@ -12,7 +12,7 @@ pub fn zeros() -> [u8; 16]
     [0; 16]
 }
 
-// The n bytes of s from place at on, with zeros behind them: a whole block where n is 16.
+// The n bytes of s from place at on, with zeros behind them.
 pub fn read(s: &[u8], at: usize, n: usize) -> [u8; 16]
     requires { ⌜ (n ≤ 16) × (at + n ≤ length (now s)) ⌝ }
     ensures { λ r. ⌜ r ≡ filled (take n (drop at (now (s .entry)))) ⌝ }
@@ -20,6 +20,14 @@ pub fn read(s: &[u8], at: usize, n: usize) -> [u8; 16]
     let mut b = zeros();
     lists::lay(&mut b, 0, &s[at..at + n]);
     b
+}
+
+// The whole block of s at place at.
+pub fn read_block(s: &[u8], at: usize) -> [u8; 16]
+    requires { ⌜ at + 16 ≤ length (now s) ⌝ }
+    ensures { λ r. ⌜ r ≡ take 16 (drop at (now (s .entry))) ⌝ }
+{
+    read(s, at, 16)
 }
 
 pub fn xor(a: [u8; 16], b: [u8; 16]) -> [u8; 16]

@@ -1,5 +1,5 @@
 -- Laying a part into a list: the laws. Assumes nothing.
-use mathlib.Core.Path.{_≡_, refl, sym, ap, _∙_}
+use mathlib.Core.Path.{_≡_, refl, sym, ap, ap₂, _∙_}
 use mathlib.Core.List.{List, [], _∷_, _++_, append-assoc, append-nil}
 use Prim.Native.Nat.{ℕ, zero, suc, _+_, _-_, _≤_, _<_}
 use native.Mathlib.Nat.{add-zero, zero-add, add-assoc}
@@ -101,3 +101,11 @@ lay-whole new out h =
 
 pub front-all : (new out : List ℕ) (k : ℕ) → length new ≤ k → length out ≤ length new → lay 0 (take k new) out ≡ new
 front-all new out k h e = ap (λ (l : List ℕ). lay 0 l out) (take-all k new h) ∙ lay-whole new out e
+
+-- new over as many bytes at the end
+pub lay-end : (p z new : List ℕ) (i : ℕ) → length p ≡ i → length z ≡ length new → lay i new (p ++ z) ≡ p ++ new
+lay-end p z new i h e =
+    let none : drop (length new) z ≡ [] = drop-of-length-le z {i = length new} (omega arith) in
+    ap₂ (λ (a b : List ℕ). a ++ (new ++ b)) (take-at p z i h)
+    (ap (λ (k : ℕ). drop (k + length new) (p ++ z)) (sym h) ∙ drop-append-add p z (length new) ∙ none)
+    ∙ ap (λ (l : List ℕ). p ++ l) (append-nil new)

@@ -10,7 +10,7 @@ use Rattle.lists.specs.Xor.{xor}
 use Rattle.lists.proofs.Xor.{length-xor, xor-cancel}
 use Rattle.block.specs.Block.{pad}
 use Rattle.block.proofs.Blocks.{length-pad}
-use Rattle.mode.specs.Masks.{Masks, IsCipher, AreMasks}
+use Rattle.mode.specs.Masks.{IsCipher}
 use Rattle.mode.specs.Message.{half, last, ending}
 use Rattle.mode.specs.Undoing.{first, unending}
 use Rattle.mode.proofs.Pairs.{length-half, half-half}
@@ -25,28 +25,28 @@ pub remains-same : (t : Bool) (x y : List ℕ) → length y ≡ length x → Rem
 remains-same true x y e h = (omega arith, omega arith)
 remains-same false x y e h = omega arith
 
-module _ (E : List ℕ → List ℕ) (e : IsCipher E) (k : Masks) (s : AreMasks k) (n : ℕ) where
-  -- ---- two blocks, p and r
-  module _ (p r : List ℕ) (hp : length p ≡ 16) (hr : length r ≤ 16) where
-    -- a full block in front of r
-    two-take : take 16 (p ++ r) ≡ p
-    two-take = take-at p r 16 hp
+module _ (E : List ℕ → List ℕ) (e : IsCipher E) (l r : List ℕ) (hl : length l ≡ 16) (hr : length r ≡ 16) where
+  -- ---- two blocks, p and y
+  module _ (p y : List ℕ) (hp : length p ≡ 16) (hy : length y ≤ 16) where
+    -- a full block in front of y
+    two-take : take 16 (p ++ y) ≡ p
+    two-take = take-at p y 16 hp
 
-    two-drop : drop 16 (p ++ r) ≡ r
-    two-drop = drop-at p r 16 hp
+    two-drop : drop 16 (p ++ y) ≡ y
+    two-drop = drop-at p y 16 hp
 
-    -- the last cipher block of p and r; and the other one, of a last cipher block and p
-    length-last : length (half E (k .left n) p r) ≡ length r
-    length-last = length-half E e (k .left n) p (s .left n) hp r hr
+    -- the last cipher block of p and y; and the other one, of a last cipher block and p
+    length-last : length (half E l p y) ≡ length y
+    length-last = length-half E e l p hl hp y hy
 
-    length-other : length (half E (k .right n) (pad r) p) ≡ 16
-    length-other = length-half E e (k .right n) (pad r) (s .right n) (length-pad r hr) p (omega arith) ∙ hp
+    length-other : length (half E r (pad y) p) ≡ 16
+    length-other = length-half E e r (pad y) hr (length-pad y hy) p (omega arith) ∙ hp
 
-    back-last : half E (k .left n) p (half E (k .left n) p r) ≡ r
-    back-last = half-half E e (k .left n) p (s .left n) hp r hr
+    back-last : half E l p (half E l p y) ≡ y
+    back-last = half-half E e l p hl hp y hy
 
-    back-other : half E (k .right n) (pad r) (half E (k .right n) (pad r) p) ≡ p
-    back-other = half-half E e (k .right n) (pad r) (s .right n) (length-pad r hr) p (omega arith)
+    back-other : half E r (pad y) (half E r (pad y) p) ≡ p
+    back-other = half-half E e r (pad y) hr (length-pad y hy) p (omega arith)
 
   module _ (x : List ℕ) (h : Remains true x) where
     first-full : length (take 16 x) ≡ 16
@@ -60,7 +60,7 @@ module _ (E : List ℕ → List ℕ) (e : IsCipher E) (k : Masks) (s : AreMasks 
 
     -- sealing: q is the last cipher block
     q : List ℕ
-    q = last E k n x
+    q = last E l x
 
     length-q : length q ≡ length (drop 16 x)
     unfolding q
@@ -70,7 +70,7 @@ module _ (E : List ℕ → List ℕ) (e : IsCipher E) (k : Masks) (s : AreMasks 
     q-part = omega (arith, length-q, last-part)
 
     c : List ℕ
-    c = half E (k .right n) (pad q) (take 16 x)
+    c = half E r (pad q) (take 16 x)
 
     length-c : length c ≡ 16
     unfolding c
@@ -78,14 +78,14 @@ module _ (E : List ℕ → List ℕ) (e : IsCipher E) (k : Masks) (s : AreMasks 
 
     -- undoing: f is the first block
     f : List ℕ
-    f = first E k n x
+    f = first E r x
 
     length-f : length f ≡ 16
     unfolding f
     length-f = length-other (take 16 x) (drop 16 x) first-full last-part
 
     g : List ℕ
-    g = half E (k .left n) f (drop 16 x)
+    g = half E l f (drop 16 x)
 
     length-g : length g ≡ length (drop 16 x)
     unfolding g
@@ -100,52 +100,52 @@ module _ (E : List ℕ → List ℕ) (e : IsCipher E) (k : Masks) (s : AreMasks 
     undone-long : length (f ++ g) ≡ length x
     undone-long = omega (arith, length-append f g, length-f, length-g, length-drop 16 x)
 
-    unseal-two : unending E k true n (c ++ q) ≡ x
+    unseal-two : unending E true l r (c ++ q) ≡ x
     unfolding c q
     unseal-two =
         let ct = two-take c q length-c q-part in
         let cd = two-drop c q length-c q-part in
-        let is-first : first E k n (c ++ q) ≡ take 16 x =
-        ap₂ (λ (a b : List ℕ). half E (k .right n) (pad a) b) cd ct ∙ back-other (take 16 x) q first-full q-part in
+        let is-first : first E r (c ++ q) ≡ take 16 x =
+        ap₂ (λ (a b : List ℕ). half E r (pad a) b) cd ct ∙ back-other (take 16 x) q first-full q-part in
         ap₂ _++_ is-first
-        (ap₂ (half E (k .left n)) is-first cd ∙ back-last (take 16 x) (drop 16 x) first-full last-part)
+        (ap₂ (half E l) is-first cd ∙ back-last (take 16 x) (drop 16 x) first-full last-part)
         ∙ whole
 
-    seal-two : ending E k true n (f ++ g) ≡ x
+    seal-two : ending E true l r (f ++ g) ≡ x
     unfolding f g
     seal-two =
         let ft = two-take f g length-f g-part in
         let fd = two-drop f g length-f g-part in
-        let is-last : last E k n (f ++ g) ≡ drop 16 x =
-        ap₂ (half E (k .left n)) ft fd ∙ back-last f (drop 16 x) length-f last-part in
-        ap₂ _++_ (ap₂ (λ (a b : List ℕ). half E (k .right n) (pad a) b) is-last ft ∙ back-other (take 16 x) (drop 16 x) first-full last-part)
+        let is-last : last E l (f ++ g) ≡ drop 16 x =
+        ap₂ (half E l) ft fd ∙ back-last f (drop 16 x) length-f last-part in
+        ap₂ _++_ (ap₂ (λ (a b : List ℕ). half E r (pad a) b) is-last ft ∙ back-other (take 16 x) (drop 16 x) first-full last-part)
         is-last
         ∙ whole
 
   -- ---- one block
-  one-long : (x : List ℕ) → length x ≤ 16 → length (xor x (E (k .left n))) ≡ length x
-  one-long x h = omega (arith, length-xor x (E (k .left n)), e (k .left n) (s .left n))
+  one-long : (x : List ℕ) → length x ≤ 16 → length (xor x (E l)) ≡ length x
+  one-long x h = omega (arith, length-xor x (E l), e l hl)
 
-  one-undone : (x : List ℕ) → length x ≤ 16 → xor (xor x (E (k .left n))) (E (k .left n)) ≡ x
-  one-undone x h = xor-cancel x (E (k .left n)) (omega (arith, e (k .left n) (s .left n)))
+  one-undone : (x : List ℕ) → length x ≤ 16 → xor (xor x (E l)) (E l) ≡ x
+  one-undone x h = xor-cancel x (E l) (omega (arith, e l hl))
 
   -- ---- either
-  pub length-ending : (t : Bool) (x : List ℕ) → Remains t x → length (ending E k t n x) ≡ length x
+  pub length-ending : (t : Bool) (x : List ℕ) → Remains t x → length (ending E t l r x) ≡ length x
   unfolding c q
   length-ending true x h = sealed-long x h
   length-ending false x h = one-long x h
 
-  pub length-unending : (t : Bool) (x : List ℕ) → Remains t x → length (unending E k t n x) ≡ length x
+  pub length-unending : (t : Bool) (x : List ℕ) → Remains t x → length (unending E t l r x) ≡ length x
   unfolding f g
   length-unending true x h = undone-long x h
   length-unending false x h = one-long x h
 
-  pub ending-undone : (t : Bool) (x : List ℕ) → Remains t x → unending E k t n (ending E k t n x) ≡ x
+  pub ending-undone : (t : Bool) (x : List ℕ) → Remains t x → unending E t l r (ending E t l r x) ≡ x
   unfolding c q
   ending-undone true x h = unseal-two x h
   ending-undone false x h = one-undone x h
 
-  pub unending-sealed : (t : Bool) (x : List ℕ) → Remains t x → ending E k t n (unending E k t n x) ≡ x
+  pub unending-sealed : (t : Bool) (x : List ℕ) → Remains t x → ending E t l r (unending E t l r x) ≡ x
   unfolding f g
   unending-sealed true x h = seal-two x h
   unending-sealed false x h = one-undone x h

@@ -31,60 +31,71 @@ module _ (E : List ℕ → List ℕ) (e : IsCipher E) (l x : List ℕ) (hl : len
   pub half-half : (y : List ℕ) → length y ≤ 16 → half E l x (half E l x y) ≡ y
   half-half y h = xor-cancel y (E (xor l x)) (omega (arith, length-inner))
 
+-- ---- one pair, p and q with the masks l and r
+module _
+    (E : List ℕ → List ℕ)
+    (e : IsCipher E)
+    (l r p q : List ℕ)
+    (hl : length l ≡ 16)
+    (hr : length r ≡ 16)
+    (hp : length p ≡ 16)
+    (hq : length q ≡ 16) where
+  c1 : List ℕ
+  c1 = half E l p q
+
+  c2 : List ℕ
+  c2 = half E r c1 p
+
+  length-c1 : length c1 ≡ 16
+  unfolding c1
+  length-c1 = length-half E e l p hl hp q (omega arith) ∙ hq
+
+  length-c2 : length c2 ≡ 16
+  unfolding c2
+  length-c2 = length-half E e r c1 hr length-c1 p (omega arith) ∙ hp
+
+  pub length-pair : length (pair E l r p q) ≡ 32
+  unfolding c1 c2
+  length-pair = omega (arith, length-append c1 c2, length-c1, length-c2)
+
+  pub first-of-pair : (t : List ℕ) → take 16 (pair E l r p q ++ t) ≡ half E l p q
+  unfolding c1 c2
+  first-of-pair t = ap (take 16) (append-assoc c1 c2 t) ∙ take-at c1 (c2 ++ t) 16 length-c1
+
+  pub second-of-pair : (t : List ℕ) → take 16 (drop 16 (pair E l r p q ++ t)) ≡ half E r (half E l p q) p
+  unfolding c1 c2
+  second-of-pair t =
+      ap (λ (x : List ℕ). take 16 (drop 16 x)) (append-assoc c1 c2 t)
+      ∙ ap (take 16) (drop-at c1 (c2 ++ t) 16 length-c1)
+      ∙ take-at c2 t 16 length-c2
+
+  pub pair-undone : pair E r l (half E l p q) (half E r (half E l p q) p) ≡ p ++ q
+  unfolding c1 c2
+  pair-undone =
+      let back-p : half E r c1 c2 ≡ p = half-half E e r c1 hr length-c1 p (omega arith) in
+      let back-q : half E l p c1 ≡ q = half-half E e l p hl hp q (omega arith) in
+      ap₂ _++_ back-p (ap (λ (x : List ℕ). half E l x c1) back-p ∙ back-q)
+
+-- ---- n pairs
 module _ (E : List ℕ → List ℕ) (e : IsCipher E) (k : Masks) (s : AreMasks k) where
-  -- ---- one pair
-  module _ (i : ℕ) (p r : List ℕ) (hp : length p ≡ 16) (hr : length r ≡ 16) where
-    c1 : List ℕ
-    c1 = half E (k .left i) p r
+  -- pair n of a string
+  abbrev pub here : ℕ → List ℕ → List ℕ
+  here n m = pair E (k .left n) (k .right n) (block m (32 * n)) (block m (32 * n + 16))
 
-    c2 : List ℕ
-    c2 = half E (k .right i) c1 p
-
-    length-c1 : length c1 ≡ 16
-    unfolding c1
-    length-c1 = length-half E e (k .left i) p (s .left i) hp r (omega arith) ∙ hr
-
-    length-c2 : length c2 ≡ 16
-    unfolding c2
-    length-c2 = length-half E e (k .right i) c1 (s .right i) length-c1 p (omega arith) ∙ hp
-
-    pub length-pair : length (pair E k i p r) ≡ 32
-    unfolding c1 c2
-    length-pair = omega (arith, length-append c1 c2, length-c1, length-c2)
-
-    pub first-of-pair : (t : List ℕ) → take 16 (pair E k i p r ++ t) ≡ half E (k .left i) p r
-    unfolding c1 c2
-    first-of-pair t = ap (take 16) (append-assoc c1 c2 t) ∙ take-at c1 (c2 ++ t) 16 length-c1
-
-    pub second-of-pair : (t : List ℕ) → take 16 (drop 16 (pair E k i p r ++ t)) ≡ half E (k .right i) (half E (k .left i) p r) p
-    unfolding c1 c2
-    second-of-pair t =
-        ap (λ (l : List ℕ). take 16 (drop 16 l)) (append-assoc c1 c2 t)
-        ∙ ap (take 16) (drop-at c1 (c2 ++ t) 16 length-c1)
-        ∙ take-at c2 t 16 length-c2
-
-    pub pair-undone : pair E (swapped k) i (half E (k .left i) p r) (half E (k .right i) (half E (k .left i) p r) p) ≡ p ++ r
-    unfolding c1 c2
-    pair-undone =
-        let back-p : half E (k .right i) c1 c2 ≡ p = half-half E e (k .right i) c1 (s .right i) length-c1 p (omega arith) in
-        let back-r : half E (k .left i) p c1 ≡ r = half-half E e (k .left i) p (s .left i) hp r (omega arith) in
-        ap₂ _++_ back-p (ap (λ (x : List ℕ). half E (k .left i) x c1) back-p ∙ back-r)
-
-  -- ---- n pairs
-  pub pairs-step : (n : ℕ) (m : List ℕ) → pairs E k n m ++ pair E k n (block m (32 * n)) (block m (32 * n + 16)) ≡ pairs E k (n + 1) m
+  pub pairs-step : (n : ℕ) (m : List ℕ) → pairs E k n m ++ here n m ≡ pairs E k (n + 1) m
   unfolding pairs
   pairs-step n m = sym (ap (λ (j : ℕ). pairs E k j m) (add-one n))
+
+  pub length-here : (n : ℕ) (m : List ℕ) → 32 * n + 32 ≤ length m → length (here n m) ≡ 32
+  length-here n m h =
+      length-pair E e (k .left n) (k .right n) (block m (32 * n)) (block m (32 * n + 16)) (s .left n) (s .right n)
+      (length-block m (32 * n) (omega arith)) (length-block m (32 * n + 16) (omega arith))
 
   pub length-pairs : (n : ℕ) (m : List ℕ) → 32 * n ≤ length m → length (pairs E k n m) ≡ 32 * n
   unfolding pairs
   length-pairs zero m h = refl
   length-pairs (suc n) m h =
-      omega (
-        arith,
-        length-append (pairs E k n m) (pair E k n (block m (32 * n)) (block m (32 * n + 16))),
-        length-pairs n m (omega arith),
-        length-pair n (block m (32 * n)) (block m (32 * n + 16)) (length-block m (32 * n) (omega arith)) (length-block m (32 * n + 16) (omega arith)),
-      )
+      omega (arith, length-append (pairs E k n m) (here n m), length-pairs n m (omega arith), length-here n m (omega arith))
 
   -- two blocks more of a string
   next-32 : (n : ℕ) (m : List ℕ) → take (32 * n) m ++ (block m (32 * n) ++ block m (32 * n + 16)) ≡ take (32 * suc n) m
@@ -99,35 +110,31 @@ module _ (E : List ℕ → List ℕ) (e : IsCipher E) (k : Masks) (s : AreMasks 
   unfolding pairs
   pairs-undone zero m t h = refl
   pairs-undone (suc n) m t h =
-      ap (pairs E (swapped k) (suc n)) (append-assoc (pairs E k n m) here t)
-      ∙ ap₂ _++_ (pairs-undone n m (here ++ t) (omega arith)) (ap₂ (pair E (swapped k) n) block-1 block-2 ∙ pair-undone n p r hp hr)
+      ap (pairs E (swapped k) (suc n)) (append-assoc (pairs E k n m) (here n m) t)
+      ∙ ap₂ _++_ (pairs-undone n m (here n m ++ t) (omega arith))
+      (ap₂ (pair E (k .right n) (k .left n)) block-1 block-2
+      ∙ pair-undone E e (k .left n) (k .right n) p q (s .left n) (s .right n) hp hq)
       ∙ next-32 n m
     where
       p : List ℕ
       p = block m (32 * n)
 
-      r : List ℕ
-      r = block m (32 * n + 16)
-
-      here : List ℕ
-      here = pair E k n p r
+      q : List ℕ
+      q = block m (32 * n + 16)
 
       hp : length p ≡ 16
       hp = length-block m (32 * n) (omega arith)
 
-      hr : length r ≡ 16
-      hr = length-block m (32 * n + 16) (omega arith)
+      hq : length q ≡ 16
+      hq = length-block m (32 * n + 16) (omega arith)
 
-      before : length (pairs E k n m) ≡ 32 * n
-      before = length-pairs n m (omega arith)
+      behind : drop (32 * n) (pairs E k n m ++ (here n m ++ t)) ≡ here n m ++ t
+      behind = drop-at (pairs E k n m) (here n m ++ t) (32 * n) (length-pairs n m (omega arith))
 
-      behind : drop (32 * n) (pairs E k n m ++ (here ++ t)) ≡ here ++ t
-      behind = drop-at (pairs E k n m) (here ++ t) (32 * n) before
+      block-1 : block (pairs E k n m ++ (here n m ++ t)) (32 * n) ≡ half E (k .left n) p q
+      block-1 = ap (take 16) behind ∙ first-of-pair E e (k .left n) (k .right n) p q (s .left n) (s .right n) hp hq t
 
-      block-1 : block (pairs E k n m ++ (here ++ t)) (32 * n) ≡ half E (k .left n) p r
-      block-1 = ap (take 16) behind ∙ first-of-pair n p r hp hr t
-
-      block-2 : block (pairs E k n m ++ (here ++ t)) (32 * n + 16) ≡ half E (k .right n) (half E (k .left n) p r) p
+      block-2 : block (pairs E k n m ++ (here n m ++ t)) (32 * n + 16) ≡ half E (k .right n) (half E (k .left n) p q) p
       block-2 =
-          ap (take 16) (sym (drop-drop 16 (32 * n) (pairs E k n m ++ (here ++ t))) ∙ ap (drop 16) behind)
-          ∙ second-of-pair n p r hp hr t
+          ap (take 16) (sym (drop-drop 16 (32 * n) (pairs E k n m ++ (here n m ++ t))) ∙ ap (drop 16) behind)
+          ∙ second-of-pair E e (k .left n) (k .right n) p q (s .left n) (s .right n) hp hq t

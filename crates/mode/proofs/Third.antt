@@ -3,7 +3,7 @@
 use mathlib.Core.Path.{_≡_, refl, ap, _∙_}
 use mathlib.Core.Bool.{Bool, true, false}
 use mathlib.Core.List.{List, [], _∷_, _++_}
-use Prim.Native.Nat.{ℕ, zero, suc, _+_, _-_, _*_, _≤_}
+use Prim.Native.Nat.{ℕ, zero, suc, _+_, _-_, _*_, _/_, _≤_}
 use native.Mathlib.Omega.{arith}
 use lib.Dec.{ltb}
 use lib.ListN.{length, drop, length-append, length-drop}
@@ -13,7 +13,7 @@ use Rattle.lists.proofs.Zeros.{length-zeros}
 use Rattle.block.specs.Block.{pad, triple, tripleTwice}
 use Rattle.block.proofs.Blocks.{length-pad}
 use Rattle.block.proofs.Doubling.{length-double, length-triple, length-seven}
-use Rattle.mode.specs.Masks.{IsCipher, AreMasks, doubles, third}
+use Rattle.mode.specs.Masks.{IsCipher, AreMasks, doubles, doubled, third}
 use Rattle.mode.specs.Message.{blocks, block}
 use Rattle.mode.specs.Data.{q, dataSum, dataFinal, dataEnd, ta}
 use Rattle.mode.specs.Nonce.{format}
@@ -29,14 +29,17 @@ unfolding doubles
 length-doubles zero x h = h
 length-doubles (suc i) x h = length-double (doubles i x) (length-doubles i x h)
 
-pub third-masks : (u : List ℕ) → length u ≡ 16 → AreMasks (third u)
-third-masks u h =
+pub doubled-masks : (l r : List ℕ) → length l ≡ 16 → length r ≡ 16 → AreMasks (doubled l r)
+doubled-masks l r hl hr =
     record {
-      left = λ i. length-doubles i u h;
-      right = λ i. length-doubles i (triple u) (length-triple u h);
+      left = λ i. length-doubles i l hl;
+      right = λ i. length-doubles i r hr;
       ifShort = λ b hb. length-triple (triple b) (length-triple b hb);
       ifFull = λ b hb. length-seven b hb;
     }
+
+pub third-masks : (u : List ℕ) → length u ≡ 16 → AreMasks (third u)
+third-masks u h = doubled-masks u (triple u) h (length-triple u h)
 
 pub length-format : (t : ℕ) (n : List ℕ) → length n ≤ 14 → length (format t n) ≡ 16
 unfolding format
@@ -55,16 +58,29 @@ module _ (E : List ℕ → List ℕ) (e : IsCipher E) where
       xor-sixteen (dataSum E n a) (E (xor (q E n) (block a (16 * n)))) (length-dataSum n a (omega arith))
       (e (xor (q E n) (block a (16 * n))) (xor-sixteen (q E n) (block a (16 * n)) (length-q n) (length-block a (16 * n) (omega arith))))
 
-  length-dataFinal : (t : Bool) (x : List ℕ) → length x ≡ 16 → length (dataFinal E t x) ≡ 16
+  length-dataFinal : (t : Bool) (x : List ℕ) → length x ≡ 16 → length (dataFinal t x) ≡ 16
   length-dataFinal true x h = length-triple x h
   length-dataFinal false x h = length-triple (triple x) (length-triple x h)
 
   length-dataEnd : (n : ℕ) (a x : List ℕ) → 16 * n ≤ length a → length x ≤ 16 → length (dataEnd E n a x) ≡ 16
   length-dataEnd n a x h hx =
-      let mask = dataFinal E (ltb (length x) 16) (q E n) in
+      let mask = dataFinal (ltb (length x) 16) (q E n) in
       e (xor mask (xor (dataSum E n a) (pad x)))
       (xor-sixteen mask (xor (dataSum E n a) (pad x)) (length-dataFinal (ltb (length x) 16) (q E n) (length-q n))
       (xor-sixteen (dataSum E n a) (pad x) (length-dataSum n a h) (length-pad x hx)))
+
+  -- empty data, and data that is not
+  pub ta-none : (a : List ℕ) → length a ≡ 0 → ta E a ≡ zeros 16
+  unfolding ta
+  ta-none [] h = refl
+  ta-none (b ∷ bs) h = absurd (omega arith)
+
+  pub ta-some : (a : List ℕ) → 1 ≤ length a → ta E a ≡ dataEnd E ((length a - 1) / 16) a (drop (16 * ((length a - 1) / 16)) a)
+  unfolding ta blocks
+  ta-some [] h = absurd (omega arith)
+  ta-some (b ∷ bs) h =
+      let is : blocks (length (b ∷ bs)) - 1 ≡ (length (b ∷ bs) - 1) / 16 = omega arith in
+      ap (λ (n : ℕ). dataEnd E n (b ∷ bs) (drop (16 * n) (b ∷ bs))) is
 
   pub length-ta : (a : List ℕ) → length (ta E a) ≡ 16
   unfolding ta blocks

@@ -26,7 +26,7 @@ remains m = go (even (length m)) refl
         (omega (arith, long, even-rest (length m) h), omega (arith, long, rest-most (length m)))
     go false h = omega (arith, long, odd-rest (length m) h)
 
--- a string is walked through: the pairs, and an end behind them
+-- a string is walked through: the pairs, and an end behind them, made with the masks of pair n
 abbrev walk : (List ℕ → List ℕ) → Masks → (Bool → ℕ → List ℕ → List ℕ) → List ℕ → List ℕ
 walk E k f m = pairs E k (pairsOf (length m)) m ++ f (even (length m)) (pairsOf (length m)) (rest m)
 
@@ -65,21 +65,34 @@ module _ (E : List ℕ → List ℕ) (e : IsCipher E) (k : Masks) (s : AreMasks 
 
 -- ---- sealing, undoing
 module _ (E : List ℕ → List ℕ) (e : IsCipher E) (k : Masks) (s : AreMasks k) where
+  -- the ends, with the masks of pair n
+  abbrev seal-end : Bool → ℕ → List ℕ → List ℕ
+  seal-end t n x = ending E t (k .left n) (k .right n) x
+
+  abbrev undo-end : Bool → ℕ → List ℕ → List ℕ
+  undo-end t n x = unending E t (k .left n) (k .right n) x
+
+  seal-long : (t : Bool) (n : ℕ) (x : List ℕ) → Remains t x → length (seal-end t n x) ≡ length x
+  seal-long t n x h = length-ending E e (k .left n) (k .right n) (s .left n) (s .right n) t x h
+
+  undo-long : (t : Bool) (n : ℕ) (x : List ℕ) → Remains t x → length (undo-end t n x) ≡ length x
+  undo-long t n x h = length-unending E e (k .left n) (k .right n) (s .left n) (s .right n) t x h
+
   pub length-body : (m : List ℕ) → length (body E k m) ≡ length m
   unfolding body
-  length-body = length-walk E e k s (ending E k) (λ t n x h. length-ending E e k s n t x h)
+  length-body = length-walk E e k s seal-end seal-long
 
   pub body-undone : (m : List ℕ) → unbody E k (body E k m) ≡ m
   unfolding body unbody
   body-undone =
-      walk-undone E e k s (ending E k) (λ t n x h. length-ending E e k s n t x h) (unending E k)
-      (λ t n x h. ending-undone E e k s n t x h)
+      walk-undone E e k s seal-end seal-long undo-end
+      (λ t n x h. ending-undone E e (k .left n) (k .right n) (s .left n) (s .right n) t x h)
 
   pub unbody-sealed : (c : List ℕ) → body E k (unbody E k c) ≡ c
   unfolding body unbody
   unbody-sealed =
-      walk-undone E e (swapped k) (swapped-masks s) (unending E k) (λ t n x h. length-unending E e k s n t x h) (ending E k)
-      (λ t n x h. unending-sealed E e k s n t x h)
+      walk-undone E e (swapped k) (swapped-masks s) undo-end undo-long seal-end
+      (λ t n x h. unending-sealed E e (k .left n) (k .right n) (s .left n) (s .right n) t x h)
 
   pub length-unbody : (c : List ℕ) → length (unbody E k c) ≡ length c
   length-unbody c = sym (length-body (unbody E k c)) ∙ ap length (unbody-sealed c)

@@ -10,6 +10,11 @@ use Rattle.block.specs.Block.{pad, triple, tripleTwice}
 use Rattle.mode.specs.Masks.{doubles}
 use Rattle.mode.specs.Message.{blocks, block}
 
+-- line 8: 3Q for a short last block, 3²Q for a full one
+abbrev pub dataFinal : Bool → List ℕ → List ℕ
+dataFinal true x = triple x
+dataFinal false x = tripleTwice x
+
 module _ (E : List ℕ → List ℕ) where
   -- lines 2 and 6: Q after i doublings
   abbrev pub q : ℕ → List ℕ
@@ -19,11 +24,6 @@ module _ (E : List ℕ → List ℕ) where
   unfoldable pub dataSum : ℕ → List ℕ → List ℕ
   dataSum zero a = zeros 16
   dataSum (suc n) a = xor (dataSum n a) (E (xor (q n) (block a (16 * n))))
-
-  -- line 8: 3Q for a short last block, 3²Q for a full one
-  abbrev pub dataFinal : Bool → List ℕ → List ℕ
-  dataFinal true x = triple x
-  dataFinal false x = tripleTwice x
 
   -- lines 7 to 10: n blocks, and a last block x
   abbrev pub dataEnd : ℕ → List ℕ → List ℕ → List ℕ

@@ -27,12 +27,16 @@ unfoldable pub doubles : ℕ → List ℕ → List ℕ
 doubles zero x = x
 doubles (suc i) x = double (doubles i x)
 
--- AES-OTR v3.1 (000, Fig. 1, EF, lines 2, 8, 19 and 20): L = 2ⁱU, L′ = 2ⁱ3U, and 3²B or 7B at the end
-abbrev pub third : List ℕ → Masks
-third u =
+-- masks that are doubled from pair to pair, with 3²B or 7B at the end
+abbrev pub doubled : List ℕ → List ℕ → Masks
+doubled l r =
     record {
-      left = λ i. doubles i u;
-      right = λ i. doubles i (triple u);
+      left = λ i. doubles i l;
+      right = λ i. doubles i r;
       ifShort = tripleTwice;
       ifFull = seven;
     }
+
+-- AES-OTR v3.1 (000, Fig. 1, EF, lines 2, 8, 19 and 20): L = 2ⁱU and L′ = 2ⁱ3U
+abbrev pub third : List ℕ → Masks
+third u = doubled u (triple u)

@@ -41,40 +41,8 @@ unfoldable pub sum : ℕ → List ℕ → List ℕ
 sum zero m = zeros 16
 sum (suc n) m = xor (sum n m) (block m (32 * n + 16))
 
-module _ (E : List ℕ → List ℕ) where
-  -- E(l ⊕ x) ⊕ y, as long as y where y is a part block
-  abbrev pub half : List ℕ → List ℕ → List ℕ → List ℕ
-  half l x y = xor y (E (xor l x))
-
-module _ (E : List ℕ → List ℕ) (k : Masks) where
-  -- lines 5 and 6: the cipher blocks of pair i, p and r
-  abbrev pub pair : ℕ → List ℕ → List ℕ → List ℕ
-  pair i p r = half E (k .left i) p r ++ half E (k .right i) (half E (k .left i) p r) p
-
-  -- line 4: the first n pairs
-  unfoldable pub pairs : ℕ → List ℕ → List ℕ
-  pairs zero m = []
-  pairs (suc n) m = pairs n m ++ pair n (block m (32 * n)) (block m (32 * n + 16))
-
-  -- ---- what remains, x: for even m a full block and one of 1 to 16 bytes, for odd m one of 0 to 16
-  -- lines 10 and 11: Z, and the last cipher block
-  abbrev pub z : ℕ → List ℕ → List ℕ
-  z n x = E (xor (k .left n) (take 16 x))
-
-  abbrev pub last : ℕ → List ℕ → List ℕ
-  last n x = xor (drop 16 x) (z n x)
-
-  -- lines 10 to 12; line 16
-  abbrev pub ending : Bool → ℕ → List ℕ → List ℕ
-  ending true n x = half E (k .right n) (pad (last n x)) (take 16 x) ++ last n x
-  ending false n x = xor x (E (k .left n))
-
-  -- lines 13 and 17: what goes into the checksum
-  abbrev pub endSum : Bool → ℕ → List ℕ → List ℕ
-  endSum true n x = xor (z n x) (pad (last n x))
-  endSum false n x = pad x
-
-  -- lines 14 and 18: the mask base B
+module _ (k : Masks) where
+  -- lines 14 and 18: the mask base B behind n pairs
   abbrev pub base : Bool → ℕ → List ℕ
   base true n = k .right n
   base false n = k .left n
@@ -84,12 +52,45 @@ module _ (E : List ℕ → List ℕ) (k : Masks) where
   final true b = k .ifShort b
   final false b = k .ifFull b
 
+module _ (E : List ℕ → List ℕ) where
+  -- E(l ⊕ x) ⊕ y, as long as y where y is a part block
+  abbrev pub half : List ℕ → List ℕ → List ℕ → List ℕ
+  half l x y = xor y (E (xor l x))
+
+  -- lines 5 and 6: the cipher blocks of a pair p, q with the masks l, r
+  abbrev pub pair : List ℕ → List ℕ → List ℕ → List ℕ → List ℕ
+  pair l r p q = half l p q ++ half r (half l p q) p
+
+  -- ---- what remains, x, with the masks l, r: for even m a full block and one of 1 to 16 bytes, for odd m one of 0 to 16
+  -- lines 10 and 11: Z, and the last cipher block
+  abbrev pub z : List ℕ → List ℕ → List ℕ
+  z l x = E (xor l (take 16 x))
+
+  abbrev pub last : List ℕ → List ℕ → List ℕ
+  last l x = xor (drop 16 x) (z l x)
+
+  -- lines 10 to 12; line 16
+  abbrev pub ending : Bool → List ℕ → List ℕ → List ℕ → List ℕ
+  ending true l r x = half r (pad (last l x)) (take 16 x) ++ last l x
+  ending false l r x = xor x (E l)
+
+  -- lines 13 and 17: what goes into the checksum
+  abbrev pub endSum : Bool → List ℕ → List ℕ → List ℕ
+  endSum true l x = xor (z l x) (pad (last l x))
+  endSum false l x = pad x
+
+module _ (E : List ℕ → List ℕ) (k : Masks) where
+  -- line 4: the first n pairs
+  unfoldable pub pairs : ℕ → List ℕ → List ℕ
+  pairs zero m = []
+  pairs (suc n) m = pairs n m ++ pair E (k .left n) (k .right n) (block m (32 * n)) (block m (32 * n + 16))
+
   -- ---- the ciphertext, the checksum and TE
   unfoldable pub body : List ℕ → List ℕ
-  body m = pairs (pairsOf (length m)) m ++ ending (even (length m)) (pairsOf (length m)) (rest m)
+  body m = pairs (pairsOf (length m)) m ++ ending E (even (length m)) (k .left (pairsOf (length m))) (k .right (pairsOf (length m))) (rest m)
 
   unfoldable pub checksum : List ℕ → List ℕ
-  checksum m = xor (sum (pairsOf (length m)) m) (endSum (even (length m)) (pairsOf (length m)) (rest m))
+  checksum m = xor (sum (pairsOf (length m)) m) (endSum E (even (length m)) (k .left (pairsOf (length m))) (rest m))
 
   unfoldable pub te : List ℕ → List ℕ
-  te m = E (xor (final (short m) (base (even (length m)) (pairsOf (length m)))) (checksum m))
+  te m = E (xor (final k (short m) (base k (even (length m)) (pairsOf (length m)))) (checksum m))

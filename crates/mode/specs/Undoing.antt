@@ -15,18 +15,20 @@ use Rattle.mode.specs.Opening.{Opened, accepted, refused}
 abbrev pub swapped : Masks → Masks
 swapped k = record { left = k .right; right = k .left; ifShort = k .ifShort; ifFull = k .ifFull }
 
-module _ (E : List ℕ → List ℕ) (k : Masks) where
+module _ (E : List ℕ → List ℕ) where
   -- the first of the two last blocks
-  abbrev pub first : ℕ → List ℕ → List ℕ
-  first n x = half E (k .right n) (pad (drop 16 x)) (take 16 x)
+  abbrev pub first : List ℕ → List ℕ → List ℕ
+  first r x = half E r (pad (drop 16 x)) (take 16 x)
 
-  abbrev pub unending : Bool → ℕ → List ℕ → List ℕ
-  unending true n x = first n x ++ half E (k .left n) (first n x) (drop 16 x)
-  unending false n x = xor x (E (k .left n))
+  abbrev pub unending : Bool → List ℕ → List ℕ → List ℕ → List ℕ
+  unending true l r x = first r x ++ half E l (first r x) (drop 16 x)
+  unending false l r x = xor x (E l)
 
+module _ (E : List ℕ → List ℕ) (k : Masks) where
   unfoldable pub unbody : List ℕ → List ℕ
   unbody c =
-      pairs E (swapped k) (pairsOf (length c)) c ++ unending (even (length c)) (pairsOf (length c)) (rest c)
+      pairs E (swapped k) (pairsOf (length c)) c
+      ++ unending E (even (length c)) (k .left (pairsOf (length c))) (k .right (pairsOf (length c))) (rest c)
 
 abbrev pub answer : Bool → List ℕ → Opened
 answer true m = accepted m
