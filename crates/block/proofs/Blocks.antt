@@ -29,6 +29,10 @@ take-filled x = take-append-seam x (drop (0 + length x) (zeros 16))
 pub part-filled : (x : List ℕ) (n : ℕ) → length x ≡ n → take n (filled x) ≡ x
 part-filled x n h = ap (λ (k : ℕ). take k (filled x)) (sym h) ∙ take-filled x
 
+-- the XOR of a part block: 'x ⊕ the first bytes of z'
+pub part-xor : (x z : List ℕ) (n : ℕ) → length x ≡ n → take n (xor (filled x) z) ≡ xor x z
+part-xor x z n h = take-xor n (filled x) z ∙ ap (λ (l : List ℕ). xor l z) (part-filled x n h)
+
 -- ---- padding
 pub pad-short : (x : List ℕ) → length x < 16 → pad x ≡ filled (x ++ (0x80 ∷ []))
 unfolding pad

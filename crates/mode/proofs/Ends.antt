@@ -11,8 +11,8 @@ use Rattle.lists.proofs.Xor.{length-xor, xor-cancel}
 use Rattle.block.specs.Block.{pad}
 use Rattle.block.proofs.Blocks.{length-pad}
 use Rattle.mode.specs.Masks.{IsCipher}
-use Rattle.mode.specs.Message.{half, last, ending}
-use Rattle.mode.specs.Undoing.{first, unending}
+use Rattle.mode.specs.Message.{half, last, ending, endSum}
+use Rattle.mode.specs.Undoing.{first, unending, undoneSum}
 use Rattle.mode.proofs.Pairs.{length-half, half-half}
 
 -- what remains: a full block and 1 to 16 bytes, or up to 16 bytes
@@ -111,15 +111,23 @@ module _ (E : List ℕ → List ℕ) (e : IsCipher E) (l r : List ℕ) (hl : len
         (ap₂ (half E l) is-first cd ∙ back-last (take 16 x) (drop 16 x) first-full last-part)
         ∙ whole
 
+    -- the last cipher block of what was recovered
+    last-again : last E l (f ++ g) ≡ drop 16 x
+    unfolding f g
+    last-again =
+        ap₂ (half E l) (two-take f g length-f g-part) (two-drop f g length-f g-part) ∙ back-last f (drop 16 x) length-f last-part
+
+    sum-two : endSum E true l (f ++ g) ≡ undoneSum E true l r x
+    unfolding f g
+    sum-two = ap₂ (λ (a b : List ℕ). xor (E (xor l a)) (pad b)) (two-take f g length-f g-part) last-again
+
     seal-two : ending E true l r (f ++ g) ≡ x
     unfolding f g
     seal-two =
-        let ft = two-take f g length-f g-part in
-        let fd = two-drop f g length-f g-part in
-        let is-last : last E l (f ++ g) ≡ drop 16 x =
-        ap₂ (half E l) ft fd ∙ back-last f (drop 16 x) length-f last-part in
-        ap₂ _++_ (ap₂ (λ (a b : List ℕ). half E r (pad a) b) is-last ft ∙ back-other (take 16 x) (drop 16 x) first-full last-part)
-        is-last
+        ap₂ _++_
+        (ap₂ (λ (a b : List ℕ). half E r (pad a) b) last-again (two-take f g length-f g-part)
+        ∙ back-other (take 16 x) (drop 16 x) first-full last-part)
+        last-again
         ∙ whole
 
   -- ---- one block
@@ -149,3 +157,8 @@ module _ (E : List ℕ → List ℕ) (e : IsCipher E) (l r : List ℕ) (hl : len
   unfolding f g
   unending-sealed true x h = seal-two x h
   unending-sealed false x h = one-undone x h
+
+  pub undone-sum : (t : Bool) (x : List ℕ) → Remains t x → endSum E t l (unending E t l r x) ≡ undoneSum E t l r x
+  unfolding f g
+  undone-sum true x h = sum-two x h
+  undone-sum false x h = refl

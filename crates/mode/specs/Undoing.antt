@@ -24,6 +24,11 @@ module _ (E : List ℕ → List ℕ) where
   unending true l r x = first r x ++ half E l (first r x) (drop 16 x)
   unending false l r x = xor x (E l)
 
+  -- what the recovered blocks put into the checksum
+  abbrev pub undoneSum : Bool → List ℕ → List ℕ → List ℕ → List ℕ
+  undoneSum true l r x = xor (E (xor l (first r x))) (pad (drop 16 x))
+  undoneSum false l r x = pad (xor x (E l))
+
 module _ (E : List ℕ → List ℕ) (k : Masks) where
   unfoldable pub unbody : List ℕ → List ℕ
   unbody c =

@@ -1,3 +1,4 @@
 pub mod Cipher
 pub mod Formatted
+pub mod Rest
 pub mod Steps

@@ -1,7 +1,8 @@
 // The pairs of the message pass. One step serves both directions: opening calls it with the two masks exchanged.
 ghost use mathlib.Core.Path.{_≡_};
+ghost use mathlib.Core.List.{_++_};
 ghost use Prim.Native.Nat.{_+_, _*_, _≤_, _<_};
-ghost use lib.ListN.{length};
+ghost use lib.ListN.{length, take};
 ghost use Rattle.lists.specs.Lay.{lay};
 ghost use Rattle.field.specs.Substitution.{sbox};
 ghost use Rattle.aes.specs.Cipher.{cipher};
@@ -26,6 +27,15 @@ pub fn half(
     block::xor(y, e)
 }
 
+// A block, and directly behind it the first n bytes of another, into out from place at on.
+pub fn put_two(out: &mut [u8], at: usize, a: [u8; 16], b: [u8; 16], n: usize)
+    requires { ⌜ (n ≤ 16) × (at + 16 + n ≤ length (now out)) ⌝ }
+    ensures { λ _. ⌜ now (out .exit) ≡ lay at (a ++ take n b) (now (out .entry)) ⌝ }
+{
+    lists::lay(out, at, &a);
+    lists::lay(out, at + 16, &b[..n]);
+}
+
 // The pair of src at place at, with the masks l and r, into out at the same place.
 fn pair(
     table: &[u8; 256],
@@ -46,8 +56,7 @@ fn pair(
     let q = block::read_block(src, at + 16);
     let first = half(table, w, nr, l, p, q);
     let second = half(table, w, nr, r, first, p);
-    lists::lay(out, at, &first);
-    lists::lay(out, at + 16, &second);
+    put_two(out, at, first, second, 16);
 }
 
 pub struct MaskPair {

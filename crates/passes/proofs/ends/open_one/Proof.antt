@@ -1,0 +1,14 @@
+-- `passes::ends::open_one` meets its contract. Assumes nothing.
+use mathlib.Core.Path.{ap, _∙_}
+use Rattle.block.specs.Block.{pad}
+use borrow.Author.Needs.{needs}
+use Rattle.passes.proofs.ends.open_one.Statement.{statement}
+use Rattle.passes.proofs.ends.open_one.Tie as tie
+
+returns : tie.Need-returns
+returns c =
+    let at-one = c .before .before .before in
+    (at-one .one .ensures .0, c .pad .ensures ∙ ap pad (at-one .one .ensures .1))
+
+pub open-one-spec : {M : Type 1} → statement M
+open-one-spec = tie.close (tie.spec (λ c. search needs) (λ c κs. search needs) (λ c κs. search needs) (λ c. search needs) returns)

@@ -1,0 +1,18 @@
+-- `passes::ends::te` meets its contract. Assumes nothing.
+use mathlib.Core.Path.{ap, _∙_}
+use mathlib.Core.List.{List}
+use Prim.Native.Nat.{ℕ}
+use Rattle.lists.specs.Xor.{xor}
+use Rattle.aes.specs.Cipher.{cipher}
+use borrow.Author.Needs.{needs}
+use Rattle.passes.proofs.ends.te.Statement.{statement}
+use Rattle.passes.proofs.ends.te.Tie as tie
+
+returns : tie.Need-returns
+returns c =
+    let v = c .before .before .before .args in
+    c .encrypt .ensures
+    ∙ ap (cipher (v .nr) (v .w .now)) (c .before .xor .ensures ∙ ap (λ (l : List ℕ). xor l (v .s)) (c .before .before .final-mask .ensures))
+
+pub te-spec : {M : Type 1} → statement M
+te-spec = tie.close (tie.spec (λ c κs. search needs) (λ c κs. search needs) (λ c κs. search needs) returns)

@@ -1,0 +1,160 @@
+// The last one or two blocks of the message pass, and TE. Each function writes its blocks and gives back what they put into the
+// checksum.
+ghost use mathlib.Core.Path.{_≡_};
+ghost use mathlib.Core.Bool.{true, false};
+ghost use Prim.Native.Nat.{_+_, _-_, _≤_, _<_};
+ghost use lib.Dec.{ltb};
+ghost use lib.ListN.{length, take, drop};
+ghost use Rattle.lists.specs.Lay.{lay};
+ghost use Rattle.lists.specs.Xor.{xor};
+ghost use Rattle.field.specs.Substitution.{sbox};
+ghost use Rattle.aes.specs.Cipher.{cipher};
+ghost use Rattle.mode.specs.Masks.{third};
+ghost use Rattle.mode.specs.Message.{ending, endSum, final};
+ghost use Rattle.mode.specs.Undoing.{unending, undoneSum};
+use crate::pairs::half;
+use crate::pairs::put_two;
+
+// Two blocks of the message m from place at on.
+pub fn seal_two(
+    table: &[u8; 256],
+    w: &[u8; 240],
+    nr: usize,
+    l: [u8; 16],
+    r: [u8; 16],
+    m: &[u8],
+    at: usize,
+    out: &mut [u8],
+) -> [u8; 16]
+    requires { ⌜ now table ≡ sbox ⌝ }
+    requires { ⌜ (0 < nr) × (nr ≤ 14) ⌝ }
+    requires { ⌜ (at + 16 < length (now m)) × ((length (now m) ≤ at + 32) × (length (now m) ≤ length (now out))) ⌝ }
+    ensures { λ _. ⌜ now (out .exit) ≡ lay at (ending (cipher nr (now (w .entry))) true l r (drop at (now (m .entry)))) (now (out .entry)) ⌝ }
+    ensures { λ a. ⌜ a ≡ endSum (cipher nr (now (w .entry))) true l (drop at (now (m .entry))) ⌝ }
+{
+    let n = m.len() - (at + 16);
+    let p = block::read_block(m, at);
+    let z = aes::encrypt(table, w, nr, block::xor(l, p));
+    let last = block::xor(block::read(m, at + 16, n), z);
+    let padded = block::pad(last, n);
+    let before = half(table, w, nr, r, padded, p);
+    put_two(out, at, before, last, n);
+    block::xor(z, padded)
+}
+
+// Two cipher blocks of c from place at on, undone.
+pub fn open_two(
+    table: &[u8; 256],
+    w: &[u8; 240],
+    nr: usize,
+    l: [u8; 16],
+    r: [u8; 16],
+    c: &[u8],
+    at: usize,
+    out: &mut [u8],
+) -> [u8; 16]
+    requires { ⌜ now table ≡ sbox ⌝ }
+    requires { ⌜ (0 < nr) × (nr ≤ 14) ⌝ }
+    requires { ⌜ (at + 16 < length (now c)) × ((length (now c) ≤ at + 32) × (length (now c) ≤ length (now out))) ⌝ }
+    ensures { λ _. ⌜ now (out .exit) ≡ lay at (unending (cipher nr (now (w .entry))) true l r (drop at (now (c .entry)))) (now (out .entry)) ⌝ }
+    ensures { λ a. ⌜ a ≡ undoneSum (cipher nr (now (w .entry))) true l r (drop at (now (c .entry))) ⌝ }
+{
+    let n = c.len() - (at + 16);
+    let last = block::read(c, at + 16, n);
+    let padded = block::pad(last, n);
+    let first = half(table, w, nr, r, padded, block::read_block(c, at));
+    let z = aes::encrypt(table, w, nr, block::xor(l, first));
+    put_two(out, at, first, block::xor(last, z), n);
+    block::xor(z, padded)
+}
+
+// One block from place at on, sealed or undone: what was written comes back, with no meaning behind its end.
+fn one(
+    table: &[u8; 256],
+    w: &[u8; 240],
+    nr: usize,
+    l: [u8; 16],
+    src: &[u8],
+    at: usize,
+    out: &mut [u8],
+) -> [u8; 16]
+    requires { ⌜ now table ≡ sbox ⌝ }
+    requires { ⌜ (0 < nr) × (nr ≤ 14) ⌝ }
+    requires { ⌜ (at ≤ length (now src)) × ((length (now src) ≤ at + 16) × (length (now src) ≤ length (now out))) ⌝ }
+    ensures { λ _. ⌜ now (out .exit) ≡ lay at (xor (drop at (now (src .entry))) (cipher nr (now (w .entry)) l)) (now (out .entry)) ⌝ }
+    ensures { λ a. ⌜ take (length (now (src .entry)) - at) a ≡ xor (drop at (now (src .entry))) (cipher nr (now (w .entry)) l) ⌝ }
+{
+    let n = src.len() - at;
+    let e = aes::encrypt(table, w, nr, l);
+    let x = block::xor(block::read(src, at, n), e);
+    lists::lay(out, at, &x[..n]);
+    x
+}
+
+// One block of the message m from place at on.
+pub fn seal_one(
+    table: &[u8; 256],
+    w: &[u8; 240],
+    nr: usize,
+    l: [u8; 16],
+    m: &[u8],
+    at: usize,
+    out: &mut [u8],
+) -> [u8; 16]
+    requires { ⌜ now table ≡ sbox ⌝ }
+    requires { ⌜ (0 < nr) × (nr ≤ 14) ⌝ }
+    requires { ⌜ (at ≤ length (now m)) × ((length (now m) ≤ at + 16) × (length (now m) ≤ length (now out))) ⌝ }
+    ensures { λ _. ⌜ now (out .exit) ≡ lay at (ending (cipher nr (now (w .entry))) false l l (drop at (now (m .entry)))) (now (out .entry)) ⌝ }
+    ensures { λ a. ⌜ a ≡ endSum (cipher nr (now (w .entry))) false l (drop at (now (m .entry))) ⌝ }
+{
+    let n = m.len() - at;
+    one(table, w, nr, l, m, at, out);
+    block::pad(block::read(m, at, n), n)
+}
+
+// One cipher block of c from place at on, undone.
+pub fn open_one(
+    table: &[u8; 256],
+    w: &[u8; 240],
+    nr: usize,
+    l: [u8; 16],
+    c: &[u8],
+    at: usize,
+    out: &mut [u8],
+) -> [u8; 16]
+    requires { ⌜ now table ≡ sbox ⌝ }
+    requires { ⌜ (0 < nr) × (nr ≤ 14) ⌝ }
+    requires { ⌜ (at ≤ length (now c)) × ((length (now c) ≤ at + 16) × (length (now c) ≤ length (now out))) ⌝ }
+    ensures { λ _. ⌜ now (out .exit) ≡ lay at (unending (cipher nr (now (w .entry))) false l l (drop at (now (c .entry)))) (now (out .entry)) ⌝ }
+    ensures { λ a. ⌜ a ≡ undoneSum (cipher nr (now (w .entry))) false l l (drop at (now (c .entry))) ⌝ }
+{
+    let n = c.len() - at;
+    let x = one(table, w, nr, l, c, at, out);
+    block::pad(x, n)
+}
+
+// The final mask from the mask base b, for a last block of n bytes.
+fn final_mask(b: [u8; 16], n: usize) -> [u8; 16]
+    ensures { λ r. ⌜ r ≡ final (third b) (ltb n 16) b ⌝ }
+{
+    if n < 16 {
+        return block::triple_twice(b);
+    }
+    block::seven(b)
+}
+
+// TE from the mask base b and the checksum s, for a last block of n bytes.
+pub fn te(
+    table: &[u8; 256],
+    w: &[u8; 240],
+    nr: usize,
+    b: [u8; 16],
+    n: usize,
+    s: [u8; 16],
+) -> [u8; 16]
+    requires { ⌜ now table ≡ sbox ⌝ }
+    requires { ⌜ (0 < nr) × (nr ≤ 14) ⌝ }
+    ensures { λ r. ⌜ r ≡ cipher nr (now (w .entry)) (xor (final (third b) (ltb n 16) b) s) ⌝ }
+{
+    aes::encrypt(table, w, nr, block::xor(final_mask(b, n), s))
+}
