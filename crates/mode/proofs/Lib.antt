@@ -5,5 +5,6 @@ pub mod Pairs
 pub mod Ends
 pub mod Walk
 pub mod Tag
+pub mod Parts
 pub mod Opens
 pub mod Third

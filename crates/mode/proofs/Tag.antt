@@ -13,7 +13,7 @@ use Rattle.lists.proofs.Zeros.{length-zeros}
 use Rattle.block.specs.Block.{pad}
 use Rattle.block.proofs.Blocks.{length-pad}
 use Rattle.mode.specs.Masks.{Masks, IsCipher, AreMasks}
-use Rattle.mode.specs.Message.{pairsOf, even, block, rest, short, sum, z, last, endSum, base, final, checksum, te}
+use Rattle.mode.specs.Message.{pairsOf, even, block, rest, short, sum, z, last, endSum, base, final, l, r, checksum, te}
 use Rattle.mode.specs.Sealing.{tag}
 use Rattle.mode.proofs.Counts.{pairs-within}
 use Rattle.mode.proofs.Pairs.{length-block, length-inner}
@@ -34,7 +34,7 @@ length-sum (suc n) m h =
     xor-sixteen (sum n m) (block m (32 * n + 16)) (length-sum n m (omega arith)) (length-block m (32 * n + 16) (omega arith))
 
 module _ (E : List ℕ → List ℕ) (e : IsCipher E) (k : Masks) (s : AreMasks k) where
-  length-base : (t : Bool) (n : ℕ) → length (base k t n) ≡ 16
+  length-base : (t : Bool) (n : ℕ) → length (base t (k .left n) (k .right n)) ≡ 16
   length-base true n = s .right n
   length-base false n = s .left n
 
@@ -52,13 +52,13 @@ module _ (E : List ℕ → List ℕ) (e : IsCipher E) (k : Masks) (s : AreMasks 
   unfolding checksum
   length-checksum m =
       let n = pairsOf (length m) in
-      xor-sixteen (sum n m) (endSum E (even (length m)) (k .left n) (rest m)) (length-sum n m (pairs-within (length m)))
+      xor-sixteen (sum n m) (endSum E (even (length m)) (l E k m) (rest m)) (length-sum n m (pairs-within (length m)))
       (length-endSum (even (length m)) (k .left n) (rest m) (s .left n) (remains m))
 
   pub length-te : (m : List ℕ) → length (te E k m) ≡ 16
   unfolding te
   length-te m =
-      let b = base k (even (length m)) (pairsOf (length m)) in
+      let b = base (even (length m)) (l E k m) (r E k m) in
       e (xor (final k (short m) b) (checksum E k m))
       (xor-sixteen (final k (short m) b) (checksum E k m)
       (length-final (short m) b (length-base (even (length m)) (pairsOf (length m))))

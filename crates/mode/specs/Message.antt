@@ -25,32 +25,31 @@ even b = eqb (blocks b % 2) 0
 abbrev pub block : List ℕ → ℕ → List ℕ
 block m i = take 16 (drop i m)
 
--- what remains behind the pairs, the last block of it, and whether that has fewer than 16 bytes
+-- what remains behind the pairs; how much of b such bytes is the last block; and whether that is fewer than 16
 abbrev pub rest : List ℕ → List ℕ
 rest m = drop (32 * pairsOf (length m)) m
 
-abbrev pub lastBlock : Bool → List ℕ → List ℕ
-lastBlock true x = drop 16 x
-lastBlock false x = x
+abbrev pub lastLength : Bool → ℕ → ℕ
+lastLength true b = b - 16
+lastLength false b = b
 
 unfoldable pub short : List ℕ → Bool
-short m = ltb (length (lastBlock (even (length m)) (rest m))) 16
+short m = ltb (lastLength (even (length m)) (length (rest m))) 16
 
 -- lines 1 and 7: the even blocks of the first n pairs
 unfoldable pub sum : ℕ → List ℕ → List ℕ
 sum zero m = zeros 16
 sum (suc n) m = xor (sum n m) (block m (32 * n + 16))
 
-module _ (k : Masks) where
-  -- lines 14 and 18: the mask base B behind n pairs
-  abbrev pub base : Bool → ℕ → List ℕ
-  base true n = k .right n
-  base false n = k .left n
+-- lines 14 and 18: the mask base B
+abbrev pub base : Bool → List ℕ → List ℕ → List ℕ
+base true l r = r
+base false l r = l
 
-  -- lines 19 and 20: the final mask, by whether the last block is short
-  abbrev pub final : Bool → List ℕ → List ℕ
-  final true b = k .ifShort b
-  final false b = k .ifFull b
+-- lines 19 and 20: the final mask, by whether the last block is short
+abbrev pub final : Masks → Bool → List ℕ → List ℕ
+final k true b = k .ifShort b
+final k false b = k .ifFull b
 
 module _ (E : List ℕ → List ℕ) where
   -- E(l ⊕ x) ⊕ y, as long as y where y is a part block
@@ -85,12 +84,18 @@ module _ (E : List ℕ → List ℕ) (k : Masks) where
   pairs zero m = []
   pairs (suc n) m = pairs n m ++ pair E (k .left n) (k .right n) (block m (32 * n)) (block m (32 * n + 16))
 
-  -- ---- the ciphertext, the checksum and TE
+  -- ---- the ciphertext, the checksum and TE, with L and L′ behind the pairs
+  abbrev pub l : List ℕ → List ℕ
+  l m = k .left (pairsOf (length m))
+
+  abbrev pub r : List ℕ → List ℕ
+  r m = k .right (pairsOf (length m))
+
   unfoldable pub body : List ℕ → List ℕ
-  body m = pairs (pairsOf (length m)) m ++ ending E (even (length m)) (k .left (pairsOf (length m))) (k .right (pairsOf (length m))) (rest m)
+  body m = pairs (pairsOf (length m)) m ++ ending E (even (length m)) (l m) (r m) (rest m)
 
   unfoldable pub checksum : List ℕ → List ℕ
-  checksum m = xor (sum (pairsOf (length m)) m) (endSum E (even (length m)) (k .left (pairsOf (length m))) (rest m))
+  checksum m = xor (sum (pairsOf (length m)) m) (endSum E (even (length m)) (l m) (rest m))
 
   unfoldable pub te : List ℕ → List ℕ
-  te m = E (xor (final k (short m) (base k (even (length m)) (pairsOf (length m)))) (checksum m))
+  te m = E (xor (final k (short m) (base (even (length m)) (l m) (r m))) (checksum m))

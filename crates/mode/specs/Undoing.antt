@@ -7,7 +7,7 @@ use Rattle.lists.specs.Same.{same}
 use Rattle.lists.specs.Xor.{xor}
 use Rattle.block.specs.Block.{pad}
 use Rattle.mode.specs.Masks.{Masks}
-use Rattle.mode.specs.Message.{pairsOf, even, rest, half, pairs}
+use Rattle.mode.specs.Message.{pairsOf, even, rest, half, pairs, l, r}
 use Rattle.mode.specs.Sealing.{tag}
 use Rattle.mode.specs.Opening.{Opened, accepted, refused}
 
@@ -33,7 +33,7 @@ module _ (E : List ℕ → List ℕ) (k : Masks) where
   unfoldable pub unbody : List ℕ → List ℕ
   unbody c =
       pairs E (swapped k) (pairsOf (length c)) c
-      ++ unending E (even (length c)) (k .left (pairsOf (length c))) (k .right (pairsOf (length c))) (rest c)
+      ++ unending E (even (length c)) (l E k c) (r E k c) (rest c)
 
 abbrev pub answer : Bool → List ℕ → Opened
 answer true m = accepted m

@@ -1,4 +1,5 @@
 pub mod Cipher
 pub mod Formatted
+pub mod Messages
 pub mod Rest
 pub mod Steps

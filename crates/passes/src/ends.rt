@@ -10,13 +10,13 @@ ghost use Rattle.lists.specs.Xor.{xor};
 ghost use Rattle.field.specs.Substitution.{sbox};
 ghost use Rattle.aes.specs.Cipher.{cipher};
 ghost use Rattle.mode.specs.Masks.{third};
-ghost use Rattle.mode.specs.Message.{ending, endSum, final};
+ghost use Rattle.mode.specs.Message.{ending, endSum, lastLength, base, final};
 ghost use Rattle.mode.specs.Undoing.{unending, undoneSum};
 use crate::pairs::half;
 use crate::pairs::put_two;
 
 // Two blocks of the message m from place at on.
-pub fn seal_two(
+fn seal_two(
     table: &[u8; 256],
     w: &[u8; 240],
     nr: usize,
@@ -43,7 +43,7 @@ pub fn seal_two(
 }
 
 // Two cipher blocks of c from place at on, undone.
-pub fn open_two(
+fn open_two(
     table: &[u8; 256],
     w: &[u8; 240],
     nr: usize,
@@ -92,7 +92,7 @@ fn one(
 }
 
 // One block of the message m from place at on.
-pub fn seal_one(
+fn seal_one(
     table: &[u8; 256],
     w: &[u8; 240],
     nr: usize,
@@ -113,7 +113,7 @@ pub fn seal_one(
 }
 
 // One cipher block of c from place at on, undone.
-pub fn open_one(
+fn open_one(
     table: &[u8; 256],
     w: &[u8; 240],
     nr: usize,
@@ -133,6 +133,52 @@ pub fn open_one(
     block::pad(x, n)
 }
 
+// What remains of the message m from place at on: two blocks, or one.
+pub fn seal_rest(
+    table: &[u8; 256],
+    w: &[u8; 240],
+    nr: usize,
+    l: [u8; 16],
+    r: [u8; 16],
+    m: &[u8],
+    at: usize,
+    out: &mut [u8],
+) -> [u8; 16]
+    requires { ⌜ now table ≡ sbox ⌝ }
+    requires { ⌜ (0 < nr) × (nr ≤ 14) ⌝ }
+    requires { ⌜ (at ≤ length (now m)) × ((length (now m) ≤ at + 32) × (length (now m) ≤ length (now out))) ⌝ }
+    ensures { λ _. ⌜ now (out .exit) ≡ lay at (ending (cipher nr (now (w .entry))) (ltb (at + 16) (length (now (m .entry)))) l r (drop at (now (m .entry)))) (now (out .entry)) ⌝ }
+    ensures { λ a. ⌜ a ≡ endSum (cipher nr (now (w .entry))) (ltb (at + 16) (length (now (m .entry)))) l (drop at (now (m .entry))) ⌝ }
+{
+    if at + 16 < m.len() {
+        return seal_two(table, w, nr, l, r, m, at, out);
+    }
+    seal_one(table, w, nr, l, m, at, out)
+}
+
+// What remains of the ciphertext c from place at on, undone.
+pub fn open_rest(
+    table: &[u8; 256],
+    w: &[u8; 240],
+    nr: usize,
+    l: [u8; 16],
+    r: [u8; 16],
+    c: &[u8],
+    at: usize,
+    out: &mut [u8],
+) -> [u8; 16]
+    requires { ⌜ now table ≡ sbox ⌝ }
+    requires { ⌜ (0 < nr) × (nr ≤ 14) ⌝ }
+    requires { ⌜ (at ≤ length (now c)) × ((length (now c) ≤ at + 32) × (length (now c) ≤ length (now out))) ⌝ }
+    ensures { λ _. ⌜ now (out .exit) ≡ lay at (unending (cipher nr (now (w .entry))) (ltb (at + 16) (length (now (c .entry)))) l r (drop at (now (c .entry)))) (now (out .entry)) ⌝ }
+    ensures { λ a. ⌜ a ≡ undoneSum (cipher nr (now (w .entry))) (ltb (at + 16) (length (now (c .entry)))) l r (drop at (now (c .entry))) ⌝ }
+{
+    if at + 16 < c.len() {
+        return open_two(table, w, nr, l, r, c, at, out);
+    }
+    open_one(table, w, nr, l, c, at, out)
+}
+
 // The final mask from the mask base b, for a last block of n bytes.
 fn final_mask(b: [u8; 16], n: usize) -> [u8; 16]
     ensures { λ r. ⌜ r ≡ final (third b) (ltb n 16) b ⌝ }
@@ -143,18 +189,29 @@ fn final_mask(b: [u8; 16], n: usize) -> [u8; 16]
     block::seven(b)
 }
 
-// TE from the mask base b and the checksum s, for a last block of n bytes.
+// The final mask from the masks l and r behind the pairs, where n bytes remain.
+fn end_mask(l: [u8; 16], r: [u8; 16], n: usize) -> [u8; 16]
+    ensures { λ a. ⌜ a ≡ final (third l) (ltb (lastLength (ltb 16 n) n) 16) (base (ltb 16 n) l r) ⌝ }
+{
+    if 16 < n {
+        return final_mask(r, n - 16);
+    }
+    final_mask(l, n)
+}
+
+// TE from the masks l and r behind the pairs, where n bytes remain, and the checksum s.
 pub fn te(
     table: &[u8; 256],
     w: &[u8; 240],
     nr: usize,
-    b: [u8; 16],
+    l: [u8; 16],
+    r: [u8; 16],
     n: usize,
     s: [u8; 16],
 ) -> [u8; 16]
     requires { ⌜ now table ≡ sbox ⌝ }
     requires { ⌜ (0 < nr) × (nr ≤ 14) ⌝ }
-    ensures { λ r. ⌜ r ≡ cipher nr (now (w .entry)) (xor (final (third b) (ltb n 16) b) s) ⌝ }
+    ensures { λ a. ⌜ a ≡ cipher nr (now (w .entry)) (xor (final (third l) (ltb (lastLength (ltb 16 n) n) 16) (base (ltb 16 n) l r)) s) ⌝ }
 {
-    aes::encrypt(table, w, nr, block::xor(final_mask(b, n), s))
+    aes::encrypt(table, w, nr, block::xor(end_mask(l, r, n), s))
 }

@@ -2,5 +2,6 @@
 // substitution, which every function is lent. In the contracts the cipher E is `cipher nr (now w)`.
 mod data;
 mod ends;
+mod message;
 mod nonce;
 mod pairs;

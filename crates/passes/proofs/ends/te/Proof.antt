@@ -12,7 +12,7 @@ returns : tie.Need-returns
 returns c =
     let v = c .before .before .before .args in
     c .encrypt .ensures
-    ∙ ap (cipher (v .nr) (v .w .now)) (c .before .xor .ensures ∙ ap (λ (l : List ℕ). xor l (v .s)) (c .before .before .final-mask .ensures))
+    ∙ ap (cipher (v .nr) (v .w .now)) (c .before .xor .ensures ∙ ap (λ (x : List ℕ). xor x (v .s)) (c .before .before .end-mask .ensures))
 
 pub te-spec : {M : Type 1} → statement M
 te-spec = tie.close (tie.spec (λ c κs. search needs) (λ c κs. search needs) (λ c κs. search needs) returns)

@@ -1,0 +1,72 @@
+// The message pass: the pairs, the last one or two blocks, and TE.
+ghost use mathlib.Core.Path.{_≡_};
+ghost use Prim.Native.Nat.{_≤_, _<_};
+ghost use lib.ListN.{length};
+ghost use Rattle.lists.specs.Lay.{lay};
+ghost use Rattle.field.specs.Substitution.{sbox};
+ghost use Rattle.aes.specs.Cipher.{cipher};
+ghost use Rattle.mode.specs.Masks.{third};
+ghost use Rattle.mode.specs.Message.{pairsOf, body, te as teOf};
+ghost use Rattle.mode.specs.Undoing.{unbody};
+use crate::ends;
+use crate::pairs;
+
+// The number of pairs before the last one or two blocks of b bytes.
+fn pairs_of(b: usize) -> usize
+    ensures { λ r. ⌜ r ≡ pairsOf b ⌝ }
+{
+    if b == 0 {
+        return 0;
+    }
+    (b - 1) / 32
+}
+
+// Seals the message m into out, and gives TE.
+pub fn seal(
+    table: &[u8; 256],
+    w: &[u8; 240],
+    nr: usize,
+    u: [u8; 16],
+    m: &[u8],
+    out: &mut [u8],
+) -> [u8; 16]
+    requires { ⌜ now table ≡ sbox ⌝ }
+    requires { ⌜ (0 < nr) × (nr ≤ 14) ⌝ }
+    requires { ⌜ length (now m) ≤ length (now out) ⌝ }
+    ensures { λ _. ⌜ now (out .exit) ≡ lay 0 (body (cipher nr (now (w .entry))) (third u) (now (m .entry))) (now (out .entry)) ⌝ }
+    ensures { λ a. ⌜ a ≡ teOf (cipher nr (now (w .entry))) (third u) (now (m .entry)) ⌝ }
+{
+    let n = pairs_of(m.len());
+    let at = 32 * n;
+    let masks = pairs::pairs(table, w, nr, u, block::triple(u), m, n, out);
+    let l = masks.left;
+    let r = masks.right;
+    let s = pairs::sum(m, n);
+    let e = ends::seal_rest(table, w, nr, l, r, m, at, out);
+    ends::te(table, w, nr, l, r, m.len() - at, block::xor(s, e))
+}
+
+// Undoes the ciphertext c into out, and gives TE of the message that was recovered.
+pub fn open(
+    table: &[u8; 256],
+    w: &[u8; 240],
+    nr: usize,
+    u: [u8; 16],
+    c: &[u8],
+    out: &mut [u8],
+) -> [u8; 16]
+    requires { ⌜ now table ≡ sbox ⌝ }
+    requires { ⌜ (0 < nr) × (nr ≤ 14) ⌝ }
+    requires { ⌜ length (now c) ≤ length (now out) ⌝ }
+    ensures { λ _. ⌜ now (out .exit) ≡ lay 0 (unbody (cipher nr (now (w .entry))) (third u) (now (c .entry))) (now (out .entry)) ⌝ }
+    ensures { λ a. ⌜ a ≡ teOf (cipher nr (now (w .entry))) (third u) (unbody (cipher nr (now (w .entry))) (third u) (now (c .entry))) ⌝ }
+{
+    let n = pairs_of(c.len());
+    let at = 32 * n;
+    let masks = pairs::pairs(table, w, nr, block::triple(u), u, c, n, out);
+    let l = masks.right;
+    let r = masks.left;
+    let s = pairs::sum(out, n);
+    let e = ends::open_rest(table, w, nr, l, r, c, at, out);
+    ends::te(table, w, nr, l, r, c.len() - at, block::xor(s, e))
+}
