@@ -4,7 +4,7 @@ use Prim.Native.Nat.{ℕ, zero, suc, _+_, _*_, _/_, _%_, _<_}
 use native.Mathlib.Nat.{mod-lt}
 use native.Mathlib.Omega.{arith}
 use lib.Arith.{bin-ind}
-use lib.Bits.{bitXor, differ, xor-step, xor-self, xor-zero-l, xor-zero-r}
+use lib.Bits.{bitOr, bitXor, differ, and-le-l, and-le-r, or-add-and, xor-step, xor-self, xor-zero-l, xor-zero-r}
 
 -- on single digits
 differ-assoc : (x y z : ℕ) → x < 2 → y < 2 → z < 2 → differ (differ x y) z ≡ differ x (differ y z)
@@ -47,3 +47,13 @@ xor-assoc =
 
 pub xor-cancel : (a b : ℕ) → bitXor (bitXor a b) b ≡ a
 xor-cancel a b = xor-assoc a b b ∙ ap (bitXor a) (xor-self b) ∙ xor-zero-r a
+
+-- ---- where the results are 0
+pub xor-zero : (a b : ℕ) → bitXor a b ≡ 0 → a ≡ b
+xor-zero a b h = sym (xor-cancel a b) ∙ ap (λ (x : ℕ). bitXor x b) h ∙ xor-zero-l b
+
+pub or-zero-left : (a b : ℕ) → bitOr a b ≡ 0 → a ≡ 0
+or-zero-left a b h = omega (arith, or-add-and a b, and-le-r a b)
+
+pub or-zero-right : (a b : ℕ) → bitOr a b ≡ 0 → b ≡ 0
+or-zero-right a b h = omega (arith, or-add-and a b, and-le-l a b)

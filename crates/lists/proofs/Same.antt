@@ -1,10 +1,13 @@
 -- The test for two strings being the same says what it should. Assumes nothing.
 use mathlib.Core.Path.{_≡_, refl, sym, ap, ap₂, _∙_}
 use mathlib.Core.Bool.{Bool, true, false, _&&_}
-use mathlib.Core.List.{List, [], _∷_}
-use Prim.Native.Nat.{ℕ}
+use mathlib.Core.List.{List, [], _∷_, _++_}
+use Prim.Native.Nat.{ℕ, _+_, _<_}
+use native.Mathlib.Numerals.{add-one}
 use native.Mathlib.Omega.{arith}
 use lib.Dec.{eqb}
+use lib.ListN.{length, getD, take}
+use lib.Seq.{take-suc, take-take, getD-take}
 use borrow.Author.Tests.{eqb-true, eq-eqb}
 use Rattle.lists.specs.Same.{same}
 
@@ -34,3 +37,29 @@ same-false a b h e =
     let t : same a b ≡ true = ap (same a) (sym e) ∙ same-self a in
     let n : _≡_ {A = ℕ} 0 1 = cc in
     omega arith
+
+-- a flag that says whether two strings are equal is the test
+pub same-is : (t : Bool) (a b : List ℕ) → (t ≡ true → a ≡ b) → (a ≡ b → t ≡ true) → t ≡ same a b
+same-is true a b f g = sym (ap (same a) (sym (f refl)) ∙ same-self a)
+same-is false a b f g = go (same a b) refl
+  where
+    go : (s : Bool) → same a b ≡ s → false ≡ s
+    go true e = g (same-true a b e)
+    go false e = refl
+
+-- ---- one byte more of two strings
+module _ (a b : List ℕ) (i : ℕ) (ha : i < length a) (hb : i < length b) where
+  pub take-more : take i a ≡ take i b → getD a i 0 ≡ getD b i 0 → take (i + 1) a ≡ take (i + 1) b
+  take-more p q =
+      ap (λ (n : ℕ). take n a) (add-one i)
+      ∙ take-suc a i 0 ha
+      ∙ ap₂ (λ (l : List ℕ) (x : ℕ). l ++ (x ∷ [])) p q
+      ∙ sym (take-suc b i 0 hb)
+      ∙ sym (ap (λ (n : ℕ). take n b) (add-one i))
+
+  pub take-less : take (i + 1) a ≡ take (i + 1) b → take i a ≡ take i b
+  take-less p = sym (take-take i (i + 1) a (omega arith)) ∙ ap (take i) p ∙ take-take i (i + 1) b (omega arith)
+
+  pub last-same : take (i + 1) a ≡ take (i + 1) b → getD a i 0 ≡ getD b i 0
+  last-same p =
+      sym (getD-take (i + 1) a i 0 (omega arith)) ∙ ap (λ (l : List ℕ). getD l i 0) p ∙ getD-take (i + 1) b i 0 (omega arith)

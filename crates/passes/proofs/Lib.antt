@@ -2,4 +2,5 @@ pub mod Cipher
 pub mod Formatted
 pub mod Messages
 pub mod Rest
+pub mod Sealed
 pub mod Steps

@@ -1,0 +1,114 @@
+-- `passes::open` meets its contract: the answer goes by the comparison of the tags. Assumes nothing.
+use mathlib.Core.Path.{_≡_, sym, ap, ap₂, _∙_}
+use mathlib.Core.Bool.{Bool, true, false}
+use mathlib.Core.List.{List}
+use Prim.Native.Nat.{ℕ, _-_, _≤_}
+use native.Mathlib.Omega.{arith}
+use lib.ListN.{length, take, drop}
+use lib.Seq.{length-take-le}
+use Rattle.lists.specs.Lay.{lay}
+use Rattle.lists.specs.Same.{same}
+use Rattle.lists.specs.Xor.{xor}
+use Rattle.lists.specs.Zeros.{zeros}
+use Rattle.lists.proofs.Laid.{lay-over}
+use Rattle.lists.proofs.Zeros.{length-zeros}
+use Rattle.aes.specs.Cipher.{cipher}
+use Rattle.mode.specs.Masks.{Masks, third}
+use Rattle.mode.specs.Message.{te}
+use Rattle.mode.specs.Data.{ta}
+use Rattle.mode.specs.Nonce.{format}
+use Rattle.mode.specs.Opening.{Opened}
+use Rattle.mode.specs.Undoing.{unbody, answer, opened}
+use Rattle.mode.proofs.Walk.{length-unbody}
+use Rattle.mode.proofs.Third.{third-masks, length-format}
+use Rattle.passes.specs.Shown.{shown, flag}
+use Rattle.passes.proofs.Cipher.{is-cipher}
+use Rattle.passes.proofs.Sealed.{opened-by}
+use borrow.Author.Needs.{needs}
+use Rattle.passes.proofs.open.Statement.{statement}
+use Rattle.passes.proofs.open.Tie as tie
+
+-- the cipher, the masks, the ciphertext, what it undoes to, and the answer
+abbrev E : tie.Start → List ℕ → List ℕ
+E c = cipher (c .args .nr) (c .args .w .now)
+
+abbrev k : tie.Start → Masks
+k c = third (E c (format (c .args .t) (c .args .n .now)))
+
+abbrev ciphertext : tie.Start → List ℕ
+ciphertext c = take (length (c .args .s .now) - c .args .t) (c .args .s .now)
+
+abbrev plain : tie.Start → List ℕ
+plain c = unbody (E c) (k c) (ciphertext c)
+
+abbrev found : tie.Start → Opened
+found c = opened (E c) (k c) (ta (E c) (c .args .a .now)) (c .args .t) (c .args .s .now)
+
+cipher-long : (c : tie.Start) → length (ciphertext c) ≡ length (c .args .s .now) - c .args .t
+cipher-long c = length-take-le (length (c .args .s .now) - c .args .t) (c .args .s .now) (omega arith)
+
+plain-long : (c : tie.Start) → length (plain c) ≡ length (c .args .s .now) - c .args .t
+plain-long c =
+    let e = is-cipher (c .args .nr) (c .args .w .now) in
+    let n = format (c .args .t) (c .args .n .now) in
+    length-unbody (E c) e (k c) (third-masks (E c n) (e n (length-format (c .args .t) (c .args .n .now) (c .pre .1 .1 .0 .1 .0)))) (ciphertext c)
+    ∙ cipher-long c
+
+-- once the tags are compared
+abbrev start-of : tie.After-same-tag → tie.Start
+start-of c = c .before .before .before .before .before .before .before .before .before .before .before .before .before
+
+message-is : (c : tie.After-same-tag) → c .before .before .before .before .before .«open» .last .1 .1 .1 .1 .1 .0 ≡ lay 0 (plain (start-of c)) (start-of c .args .out .now)
+message-is c =
+    let start = start-of c in
+    let at-open = c .before .before .before .before .before in
+    at-open .«open» .ensures .0
+    ∙ ap (λ (x : List ℕ). lay 0 (unbody (E start) (third x) (ciphertext start)) (start .args .out .now)) (at-open .before .before .before .first-mask .ensures)
+
+answer-is : (c : tie.After-same-tag) → found (start-of c) ≡ answer (c .same-tag .result) (plain (start-of c))
+answer-is c =
+    let start = start-of c in
+    let v = start .args in
+    let at-open = c .before .before .before .before .before in
+    let te-is = at-open .«open» .ensures .1 ∙ ap (λ (x : List ℕ). te (E start) (third x) (unbody (E start) (third x) (ciphertext start))) (at-open .before .before .before .first-mask .ensures) in
+    let x-is = c .before .xor .ensures ∙ ap₂ xor te-is (c .before .before .ta .ensures) in
+    opened-by (E start) (k start) (ta (E start) (v .a .now)) (v .t) (v .s .now) (c .same-tag .result)
+    (sym (c .same-tag .ensures ∙ ap (λ (x : List ℕ). same (take (v .t) x) (drop (length (v .s .now) - v .t) (v .s .now))) x-is))
+
+slice-aggregate-open : tie.Need-slice-aggregate-open
+slice-aggregate-open c = sym (cipher-long (c .before .before .before .before .before .before))
+
+open-requires : tie.Need-open-requires
+open-requires c κs =
+    let start = c .before .before .before .before .before .before .before in
+    (start .pre .0, (start .pre .1 .0, omega (arith, cipher-long start, start .pre .1 .1 .1)))
+
+returns : tie.Need-returns
+returns c =
+    let d = c .before in
+    let start = start-of d in
+    let is : found start ≡ answer true (plain start) = answer-is d ∙ ap (λ (b : Bool). answer b (plain start)) (c .if1 .taken) in
+    (sym (ap flag is), message-is d ∙ sym (ap (λ (o : Opened). shown o (length (start .args .s .now) - start .args .t) (start .args .out .now)) is))
+
+clear-requires : tie.Need-clear-requires
+clear-requires c κs =
+    let d = c .before .before in
+    omega (arith, start-of d .pre .1 .1 .1, d .before .before .before .before .before .«open» .kept)
+
+returns-2 : tie.Need-returns-2
+returns-2 c =
+    let d = c .before .before .before .before .before in
+    let start = start-of d in
+    let n = length (start .args .s .now) - start .args .t in
+    let out = start .args .out .now in
+    let is : found start ≡ answer false (plain start) = answer-is d ∙ ap (λ (b : Bool). answer b (plain start)) (c .before .before .before .before .if1 .left) in (
+      sym (ap flag is),
+      c .before .before .clear .ensures
+          ∙ ap (lay 0 (zeros n)) (message-is d)
+          ∙ lay-over (plain start) (zeros n) out (omega (arith, plain-long start, length-zeros n))
+          ∙ sym (ap (λ (o : Opened). shown o n out) is),
+    )
+
+pub open-spec : {M : Type 1} → statement M
+open-spec =
+    tie.close (tie.spec (λ c. search needs) (λ c κs. search needs) slice-aggregate-open open-requires (λ c κs. search needs) (λ c κs. search needs) (λ c κs. search needs) (λ c. search needs) returns clear-requires (λ c. search needs) returns-2)
