@@ -1,0 +1,105 @@
+-- What the checks come to: they pass, and then every length is within its limits; or the first that fails stops the call with its
+-- own number. Assumes nothing.
+use mathlib.Core.Path.{_≡_, refl, sym, ap, _∙_}
+use mathlib.Core.Bool.{Bool, true, false, _&&_, _||_}
+use Prim.Native.Nat.{ℕ, _+_, _-_, _≤_}
+use native.Mathlib.Omega.{arith}
+use lib.Dec.{eqb, leb}
+use borrow.Author.Tests.{leb-true}
+use Rattle.link.specs.Answers.{numberOf}
+use Rattle.link.specs.Checks.{Check, pass, stop, from-to, unless, callCheck, sealCheck, openCheck, asAnswer}
+use Rattle.link.specs.declared.answer.Answer.{Answer}
+use Rattle.link.specs.declared.answer.Answer.the-variants.{Done, Key, Nonce, Tag, Data, Length, Room}
+
+-- the checks c come to n bytes with P known, or stop at a refusal
+pub data Verdict (P : Type 0) (n : ℕ) (c : Check) : Type 0 where
+  passes : P → c ≡ pass n → Verdict P n c
+  stops : (r : Answer) → (numberOf r ≡ 0 → ⊥) → c ≡ stop r → Verdict P n c
+
+-- one check more in front
+checked : {P : Type 0} {n : ℕ} {c : Check} (b : Bool) (r : Answer) → (numberOf r ≡ 0 → ⊥) → (b ≡ true → Verdict P n c) → Verdict P n (unless b r c)
+checked true r z f = f refl
+checked false r z f = stops r z refl
+
+-- both halves of a range test
+and-true : (a b : Bool) → (a && b) ≡ true → (a ≡ true) × (b ≡ true)
+and-true true b h = (refl, h)
+and-true false b h = absurd (let z : _≡_ {A = ℕ} 0 1 = cc in omega arith)
+
+pub within : (l h a : ℕ) → from-to l h a ≡ true → (l ≤ a) × (a ≤ h)
+within l h a t =
+    let p = and-true (leb l a) (leb a h) t in
+    (leb-true l a (p .0), leb-true a h (p .1))
+
+-- ---- what checks 1 to 4 make sure of
+pub record Called (key nonce t ad : ℕ) : Type 0 where
+  pub known : (eqb key 16 || (eqb key 24 || eqb key 32)) ≡ true
+  pub nonces : (1 ≤ nonce) × (nonce ≤ 14)
+  pub tags : (4 ≤ t) × (t ≤ 16)
+  pub data-most : ad ≤ 4096
+
+module _ (key nonce t ad : ℕ) where
+  -- whatever comes after them
+  after : (P : Type 0) (n : ℕ) (c : Check) → (Called key nonce t ad → Verdict P n c) → Verdict P n (callCheck key nonce t ad c)
+  unfolding callCheck
+  after P n c f =
+      checked (eqb key 16 || (eqb key 24 || eqb key 32)) Key (λ z. omega arith) λ k.
+      checked (from-to 1 14 nonce) Nonce (λ z. omega arith) λ s.
+      checked (from-to 4 16 t) Tag (λ z. omega arith) λ g.
+      checked (leb ad 4096) Data (λ z. omega arith) λ a.
+      f (record { known = k; nonces = within 1 14 nonce s; tags = within 4 16 t g; data-most = leb-true ad 4096 a })
+
+  pub call-verdict : Verdict (Called key nonce t ad) 0 (callCheck key nonce t ad (pass 0))
+  call-verdict = after (Called key nonce t ad) 0 (pass 0) (λ h. passes h refl)
+
+  pub call-passed : numberOf (asAnswer (callCheck key nonce t ad (pass 0))) ≡ 0 → Called key nonce t ad
+  call-passed h = go call-verdict
+    where
+      go : Verdict (Called key nonce t ad) 0 (callCheck key nonce t ad (pass 0)) → Called key nonce t ad
+      go (passes p e) = p
+      go (stops r z e) = absurd (z (sym (ap (λ (c : Check). numberOf (asAnswer c)) e) ∙ h))
+
+  pub seal-verdict : (m o : ℕ)
+      → Verdict (Called key nonce t ad × (m ≤ 16384) × (m + t ≤ o)) (m + t) (sealCheck key nonce t ad m o)
+  unfolding sealCheck
+  seal-verdict m o =
+      after (Called key nonce t ad × (m ≤ 16384) × (m + t ≤ o)) (m + t) (unless (leb m 16384) Length (unless (leb (m + t) o) Room (pass (m + t)))) λ h.
+      checked (leb m 16384) Length (λ z. omega arith) λ l.
+      checked (leb (m + t) o) Room (λ z. omega arith) λ r.
+      passes (h, leb-true m 16384 l, leb-true (m + t) o r) refl
+
+  pub open-verdict : (s o : ℕ)
+      → Verdict (Called key nonce t ad × (t ≤ s) × (s ≤ 16384 + t) × (s - t ≤ o)) (s - t) (openCheck key nonce t ad s o)
+  unfolding openCheck
+  open-verdict s o =
+      after (Called key nonce t ad × (t ≤ s) × (s ≤ 16384 + t) × (s - t ≤ o)) (s - t)
+      (unless (from-to t (16384 + t) s) Length (unless (leb (s - t) o) Room (pass (s - t)))) λ h.
+      checked (from-to t (16384 + t) s) Length (λ z. omega arith) λ l.
+      checked (leb (s - t) o) Room (λ z. omega arith) λ r.
+      passes (h, within t (16384 + t) s l .0, within t (16384 + t) s l .1, leb-true (s - t) o r) refl
+
+  -- ---- checks 1 to 4 pass, or stop, whatever comes after them
+  pub goes-on : (next : Check) → numberOf (asAnswer (callCheck key nonce t ad (pass 0))) ≡ 0 → callCheck key nonce t ad next ≡ next
+  unfolding callCheck
+  goes-on next = go (eqb key 16 || (eqb key 24 || eqb key 32)) (from-to 1 14 nonce) (from-to 4 16 t) (leb ad 4096)
+    where
+      go : (p q r s : Bool) → numberOf (asAnswer (unless p Key (unless q Nonce (unless r Tag (unless s Data (pass 0)))))) ≡ 0
+          → unless p Key (unless q Nonce (unless r Tag (unless s Data next))) ≡ next
+      go true true true true h = refl
+      go true true true false h = absurd (omega arith)
+      go true true false s h = absurd (omega arith)
+      go true false r s h = absurd (omega arith)
+      go false q r s h = absurd (omega arith)
+
+  pub stops-here : (next : Check) → (numberOf (asAnswer (callCheck key nonce t ad (pass 0))) ≡ 0 → ⊥)
+      → callCheck key nonce t ad next ≡ callCheck key nonce t ad (pass 0)
+  unfolding callCheck
+  stops-here next = go (eqb key 16 || (eqb key 24 || eqb key 32)) (from-to 1 14 nonce) (from-to 4 16 t) (leb ad 4096)
+    where
+      go : (p q r s : Bool) → (numberOf (asAnswer (unless p Key (unless q Nonce (unless r Tag (unless s Data (pass 0)))))) ≡ 0 → ⊥)
+          → unless p Key (unless q Nonce (unless r Tag (unless s Data next))) ≡ unless p Key (unless q Nonce (unless r Tag (unless s Data (pass 0))))
+      go true true true true h = absurd (h refl)
+      go true true true false h = refl
+      go true true false s h = refl
+      go true false r s h = refl
+      go false q r s h = refl

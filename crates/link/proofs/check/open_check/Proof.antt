@@ -1,0 +1,77 @@
+-- `link::check::open_check` meets its contract, check by check. Assumes nothing.
+use mathlib.Core.Path.{_≡_, sym, ap, _∙_}
+use mathlib.Core.Bool.{true, false}
+use Prim.Native.Nat.{ℕ, _+_, _-_, _≤_}
+use native.Mathlib.Omega.{arith}
+use lib.Dec.{leb}
+use borrow.Author.Tests.{le-leb, lt-leb, not-true, not-false}
+use Rattle.link.specs.Answers.{numberOf}
+use Rattle.link.specs.Checks.{Check, pass, from-to, unless, callCheck, openCheck, asAnswer}
+use Rattle.link.specs.declared.answer.Answer.the-variants.{Length, Room}
+use Rattle.link.proofs.Verdicts.{Called, within, call-passed, goes-on, stops-here}
+use borrow.Author.Needs.{needs}
+use Rattle.link.proofs.check.open_check.Statement.{statement}
+use Rattle.link.proofs.check.open_check.Tie as tie
+
+-- what follows checks 1 to 4
+abbrev next : tie.Start → Check
+next c =
+    let v = c .args in
+    unless (from-to (v .tag) (16384 + v .tag) (v .sealed)) Length (unless (leb (v .sealed - v .tag) (v .room)) Room (pass (v .sealed - v .tag)))
+
+-- they have passed
+passed : (c : tie.Else1) → numberOf (asAnswer (callCheck (c .before .before .before .args .key) (c .before .before .before .args .nonce) (c .before .before .before .args .tag) (c .before .before .before .args .ad) (pass 0))) ≡ 0
+passed c = sym (ap numberOf (c .before .before .call-check .ensures)) ∙ sym (c .before .number .ensures) ∙ c .if1 .left
+
+called : (c : tie.Else1) → Called (c .before .before .before .args .key) (c .before .before .before .args .nonce) (c .before .before .before .args .tag) (c .before .before .before .args .ad)
+called c =
+    let v = c .before .before .before .args in
+    call-passed (v .key) (v .nonce) (v .tag) (v .ad) (passed c)
+
+next-is : (c : tie.Else1) → openCheck (c .before .before .before .args .key) (c .before .before .before .args .nonce) (c .before .before .before .args .tag) (c .before .before .before .args .ad) (c .before .before .before .args .sealed) (c .before .before .before .args .room) ≡ next (c .before .before .before)
+unfolding openCheck
+next-is c =
+    let v = c .before .before .before .args in
+    goes-on (v .key) (v .nonce) (v .tag) (v .ad) (next (c .before .before .before)) (passed c)
+
+range-is : (c : tie.Else2) → from-to (c .before .before .before .before .before .args .tag) (16384 + c .before .before .before .before .before .args .tag) (c .before .before .before .before .before .args .sealed) ≡ true
+range-is c = sym (c .before .from-to .ensures) ∙ not-false (c .before .from-to .result) (c .if2 .left)
+
+in-range : (c : tie.Else2) → (c .before .before .before .before .before .args .tag ≤ c .before .before .before .before .before .args .sealed) × (c .before .before .before .before .before .args .sealed ≤ 16384 + c .before .before .before .before .before .args .tag)
+in-range c =
+    let v = c .before .before .before .before .before .args in
+    within (v .tag) (16384 + v .tag) (v .sealed) (range-is c)
+
+returns : tie.Need-returns
+unfolding openCheck
+returns c =
+    let v = c .before .before .before .args in
+    let r = c .before .before .call-check .ensures in
+    r ∙ sym (ap asAnswer (stops-here (v .key) (v .nonce) (v .tag) (v .ad) (next (c .before .before .before)) (λ z. c .if1 .taken (c .before .number .ensures ∙ ap numberOf r ∙ z))))
+
+add-from-to : tie.Need-add-from-to
+add-from-to c = omega (arith, called c)
+
+returns-2 : tie.Need-returns-2
+returns-2 c =
+    let range = sym (c .before .from-to .ensures) ∙ not-true (c .before .from-to .result) (c .if2 .taken) in
+    sym (ap asAnswer (next-is (c .before .before)) ∙ rw range)
+
+sub-if3 : tie.Need-sub-if3
+sub-if3 c = in-range c .0
+
+returns-3 : tie.Need-returns-3
+returns-3 c =
+    let d = c .before in
+    let v = d .before .before .before .before .before .args in
+    sym (ap asAnswer (next-is (d .before .before)) ∙ rw (range-is d, lt-leb (v .sealed - v .tag) (v .room) (c .if3 .taken)))
+
+returns-4 : tie.Need-returns-4
+returns-4 c =
+    let d = c .before in
+    let v = d .before .before .before .before .before .args in
+    sym (ap asAnswer (next-is (d .before .before)) ∙ rw (range-is d, le-leb (v .sealed - v .tag) (v .room) (c .if3 .left)))
+
+pub open-check-spec : {M : Type 1} → statement M
+open-check-spec =
+    tie.close (tie.spec (λ c κs. search needs) (λ c κs. search needs) returns add-from-to (λ c κs. search needs) returns-2 sub-if3 returns-3 (λ c. in-range (c .before) .0) returns-4)

@@ -1,0 +1,66 @@
+-- `link::check::seal_check` meets its contract, check by check. Assumes nothing.
+use mathlib.Core.Path.{_≡_, sym, ap, _∙_}
+use mathlib.Core.Bool.{true, false}
+use Prim.Native.Nat.{ℕ, _+_, _-_, _≤_}
+use native.Mathlib.Omega.{arith}
+use lib.Dec.{leb}
+use borrow.Author.Tests.{le-leb, lt-leb, not-true, not-false}
+use Rattle.link.specs.Answers.{numberOf}
+use Rattle.link.specs.Checks.{Check, pass, from-to, unless, callCheck, sealCheck, asAnswer}
+use Rattle.link.specs.declared.answer.Answer.the-variants.{Length, Room}
+use Rattle.link.proofs.Verdicts.{Called, within, call-passed, goes-on, stops-here}
+use borrow.Author.Needs.{needs}
+use Rattle.link.proofs.check.seal_check.Statement.{statement}
+use Rattle.link.proofs.check.seal_check.Tie as tie
+
+-- what follows checks 1 to 4
+abbrev next : tie.Start → Check
+next c =
+    let v = c .args in
+    unless (leb (v .message) 16384) Length (unless (leb (v .message + v .tag) (v .room)) Room (pass (v .message + v .tag)))
+
+-- they have passed
+passed : (c : tie.Else1) → numberOf (asAnswer (callCheck (c .before .before .before .args .key) (c .before .before .before .args .nonce) (c .before .before .before .args .tag) (c .before .before .before .args .ad) (pass 0))) ≡ 0
+passed c = sym (ap numberOf (c .before .before .call-check .ensures)) ∙ sym (c .before .number .ensures) ∙ c .if1 .left
+
+called : (c : tie.Else1) → Called (c .before .before .before .args .key) (c .before .before .before .args .nonce) (c .before .before .before .args .tag) (c .before .before .before .args .ad)
+called c =
+    let v = c .before .before .before .args in
+    call-passed (v .key) (v .nonce) (v .tag) (v .ad) (passed c)
+
+next-is : (c : tie.Else1) → sealCheck (c .before .before .before .args .key) (c .before .before .before .args .nonce) (c .before .before .before .args .tag) (c .before .before .before .args .ad) (c .before .before .before .args .message) (c .before .before .before .args .room) ≡ next (c .before .before .before)
+unfolding sealCheck
+next-is c =
+    let v = c .before .before .before .args in
+    goes-on (v .key) (v .nonce) (v .tag) (v .ad) (next (c .before .before .before)) (passed c)
+
+returns : tie.Need-returns
+unfolding sealCheck
+returns c =
+    let v = c .before .before .before .args in
+    let r = c .before .before .call-check .ensures in
+    r ∙ sym (ap asAnswer (stops-here (v .key) (v .nonce) (v .tag) (v .ad) (next (c .before .before .before)) (λ z. c .if1 .taken (c .before .number .ensures ∙ ap numberOf r ∙ z))))
+
+returns-2 : tie.Need-returns-2
+returns-2 c =
+    let v = c .before .before .before .before .args in
+    sym (ap asAnswer (next-is (c .before)) ∙ rw (lt-leb (v .message) 16384 (c .if2 .taken)))
+
+add-if3 : tie.Need-add-if3
+add-if3 c = omega (arith, called (c .before))
+
+returns-3 : tie.Need-returns-3
+returns-3 c =
+    let e = c .before .before in
+    let v = e .before .before .before .args in
+    sym (ap asAnswer (next-is e) ∙ rw (le-leb (v .message) 16384 (c .before .if2 .left), lt-leb (v .message + v .tag) (v .room) (c .if3 .taken)))
+
+returns-4 : tie.Need-returns-4
+returns-4 c =
+    let e = c .before .before in
+    let v = e .before .before .before .args in
+    sym (ap asAnswer (next-is e) ∙ rw (le-leb (v .message) 16384 (c .before .if2 .left), le-leb (v .message + v .tag) (v .room) (c .if3 .left)))
+
+pub seal-check-spec : {M : Type 1} → statement M
+seal-check-spec =
+    tie.close (tie.spec (λ c κs. search needs) (λ c κs. search needs) returns returns-2 add-if3 returns-3 (λ c. search needs) returns-4)

@@ -1,0 +1,24 @@
+-- Document 01, 'What comes back': the number and the length of each answer.
+use Prim.Native.Nat.{ℕ}
+use Rattle.link.specs.declared.answer.Answer.{Answer}
+use Rattle.link.specs.declared.answer.Answer.the-variants.{Done, Key, Nonce, Tag, Data, Length, Room, Forged}
+
+abbrev pub numberOf : Answer → ℕ
+numberOf (Done n) = 0
+numberOf Key = 1
+numberOf Nonce = 2
+numberOf Tag = 3
+numberOf Data = 4
+numberOf Length = 5
+numberOf Room = 6
+numberOf Forged = 7
+
+abbrev pub lengthOf : Answer → ℕ
+lengthOf (Done n) = n
+lengthOf Key = 0
+lengthOf Nonce = 0
+lengthOf Tag = 0
+lengthOf Data = 0
+lengthOf Length = 0
+lengthOf Room = 0
+lengthOf Forged = 0

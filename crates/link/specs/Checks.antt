@@ -1,0 +1,43 @@
+-- Document 01, 'Numbers a call may carry' and 'What comes back': the checks 1 to 6, in the order of their numbers. Each goes by
+-- lengths alone: of the key, the nonce, the tag, the associated data, the message or the sealed bytes, and the output.
+use mathlib.Core.Bool.{Bool, true, false, _&&_, _||_}
+use Prim.Native.Nat.{ℕ, _+_, _-_}
+use lib.Dec.{eqb, leb}
+use Rattle.link.specs.declared.answer.Answer.{Answer}
+use Rattle.link.specs.declared.answer.Answer.the-variants.{Done, Key, Nonce, Tag, Data, Length, Room}
+
+-- a is from l to h
+abbrev pub from-to : ℕ → ℕ → ℕ → Bool
+from-to l h a = leb l a && leb a h
+
+-- what the checks come to: they pass, with the number of bytes that a call writes; or the first that fails stops the call
+pub data Check : Type 0 where
+  pass : ℕ → Check
+  stop : Answer → Check
+
+abbrev pub unless : Bool → Answer → Check → Check
+unless true r next = next
+unless false r next = stop r
+
+-- checks 1 to 4, which sealing and opening share, and what comes after them
+unfoldable pub callCheck : ℕ → ℕ → ℕ → ℕ → Check → Check
+callCheck key nonce t ad next =
+    unless (eqb key 16 || (eqb key 24 || eqb key 32)) Key
+    (unless (from-to 1 14 nonce) Nonce
+    (unless (from-to 4 16 t) Tag
+    (unless (leb ad 4096) Data next)))
+
+-- sealing a message of m bytes into o bytes
+unfoldable pub sealCheck : ℕ → ℕ → ℕ → ℕ → ℕ → ℕ → Check
+sealCheck key nonce t ad m o =
+    callCheck key nonce t ad (unless (leb m 16384) Length (unless (leb (m + t) o) Room (pass (m + t))))
+
+-- opening s sealed bytes into o bytes
+unfoldable pub openCheck : ℕ → ℕ → ℕ → ℕ → ℕ → ℕ → Check
+openCheck key nonce t ad s o =
+    callCheck key nonce t ad (unless (from-to t (16384 + t) s) Length (unless (leb (s - t) o) Room (pass (s - t))))
+
+-- a check as an answer
+abbrev pub asAnswer : Check → Answer
+asAnswer (pass n) = Done n
+asAnswer (stop c) = c

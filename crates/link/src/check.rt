@@ -1,0 +1,86 @@
+// The checks 1 to 6, in the order of their numbers. They go by lengths alone.
+ghost use mathlib.Core.Path.{_≡_};
+ghost use Rattle.link.specs.Checks.{from-to as between, pass, callCheck, sealCheck, openCheck, asAnswer};
+use crate::answer::Answer;
+use crate::answer::number;
+use aes::KeySize;
+
+// Whether a is from l to h.
+fn from_to(l: usize, h: usize, a: usize) -> bool
+    ensures { λ r. ⌜ r ≡ between l h a ⌝ }
+{
+    if a < l {
+        return false;
+    }
+    a <= h
+}
+
+// The checks that sealing and opening share.
+fn call_check(key: usize, nonce: usize, tag: usize, ad: usize) -> Answer
+    ensures { λ r. ⌜ r ≡ asAnswer (callCheck key nonce tag ad (pass 0)) ⌝ }
+{
+    let size = aes::key_size(key);
+    let KeySize::Known {
+        rounds: _,
+        words: _,
+    } = size
+    else {
+        return Answer::Key;
+    };
+    if !from_to(1, 14, nonce) {
+        return Answer::Nonce;
+    }
+    if !from_to(4, 16, tag) {
+        return Answer::Tag;
+    }
+    if 4096 < ad {
+        return Answer::Data;
+    }
+    Answer::Done(0)
+}
+
+pub fn seal_check(
+    key: usize,
+    nonce: usize,
+    tag: usize,
+    ad: usize,
+    message: usize,
+    room: usize,
+) -> Answer
+    ensures { λ r. ⌜ r ≡ asAnswer (sealCheck key nonce tag ad message room) ⌝ }
+{
+    let first = call_check(key, nonce, tag, ad);
+    if number(first) != 0 {
+        return first;
+    }
+    if 16384 < message {
+        return Answer::Length;
+    }
+    if room < message + tag {
+        return Answer::Room;
+    }
+    Answer::Done(message + tag)
+}
+
+pub fn open_check(
+    key: usize,
+    nonce: usize,
+    tag: usize,
+    ad: usize,
+    sealed: usize,
+    room: usize,
+) -> Answer
+    ensures { λ r. ⌜ r ≡ asAnswer (openCheck key nonce tag ad sealed room) ⌝ }
+{
+    let first = call_check(key, nonce, tag, ad);
+    if number(first) != 0 {
+        return first;
+    }
+    if !from_to(tag, 16384 + tag, sealed) {
+        return Answer::Length;
+    }
+    if room < sealed - tag {
+        return Answer::Room;
+    }
+    Answer::Done(sealed - tag)
+}
