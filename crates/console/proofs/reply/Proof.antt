@@ -1,0 +1,13 @@
+-- `console::reply` is safe: what a request requires to be carried out is what `parse` ensures of it. Assumes nothing.
+use borrow.Author.Needs.{needs}
+use Rattle.console.proofs.reply.Statement.{statement}
+use Rattle.console.proofs.reply.Tie as tie
+
+carry-out-requires : tie.Need-carry-out-requires
+carry-out-requires c κs =
+    let r = c .before .before .before .before in
+    (rw (r .request .given .1) at (r .before .before .before .before .parse .ensures), search needs)
+
+pub reply-spec : {M : Type 1} → statement M
+reply-spec =
+    tie.close (tie.spec (λ c κs. search needs) (λ c. search needs) (λ c. search needs) (λ c κs. search needs) (λ c. search needs) carry-out-requires (λ c. search needs) (λ c. search needs) (λ c. search needs) (λ c. search needs) (λ c. search needs) (λ c. search needs) (λ c. search needs) (λ c. search needs) (λ c. search needs))

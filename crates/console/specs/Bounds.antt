@@ -1,0 +1,55 @@
+-- What the contracts cite: the bounds that make each index safe.
+use Prim.Native.Nat.{ℕ, _+_, _≤_, _<_}
+use Rattle.console.specs.declared.fields.Byte.{Byte}
+use Rattle.console.specs.declared.fields.Byte.the-variants.{Value as ByteValue, Bad as NoByte}
+use Rattle.console.specs.declared.fields.Field.{Field}
+use Rattle.console.specs.declared.fields.Field.the-variants.{Bytes, Number, Bad as NoField}
+use Rattle.console.specs.declared.fields.Parsed.{Parsed}
+use Rattle.console.specs.declared.fields.Parsed.the-variants.{Value, Bad}
+use Rattle.console.specs.declared.fields.Part.{Part}
+use Rattle.console.specs.declared.request.Line.{Line}
+use Rattle.console.specs.declared.request.Line.the-variants.{Request as Asked, PassedOver, Bad as BadLine}
+use Rattle.console.specs.declared.request.Request.{Request}
+use Rattle.console.specs.declared.request.Strings.{Strings}
+
+-- a byte that was read is below n
+abbrev pub Below : ℕ → Byte → Type 0
+Below n (ByteValue b) = b < n
+Below n NoByte = Unit
+
+-- a number that was read is at most n
+abbrev pub AtMost : ℕ → Parsed → Type 0
+AtMost n (Value m) = m ≤ n
+AtMost n Bad = Unit
+
+-- the part lies in a line of n bytes
+abbrev pub Inside : ℕ → Part → Type 0
+Inside n p = p .from + p .count ≤ n
+
+-- what a field of a line of n bytes holds: bytes that lie in the line, or a number that is at most 65535
+abbrev pub Read : ℕ → Field → Type 0
+Read n (Bytes p next) = Inside n p
+Read n (Number m next) = m ≤ 65535
+Read n NoField = Unit
+
+-- the four strings lie in a line of n bytes
+pub record Within (n : ℕ) (s : Strings) : Type 0 where
+  pub key : Inside n (s .key)
+  pub nonce : Inside n (s .nonce)
+  pub «data» : Inside n (s .«data»)
+  pub message : Inside n (s .message)
+
+-- the strings of a request lie in its line, of n bytes, and its output buffer is no larger than one may be
+abbrev pub Sound : ℕ → Request → Type 0
+Sound n r = Within n (r .strings) × (r .room ≤ 20480)
+
+-- a line of n bytes is a sound request, or none
+abbrev pub Good : ℕ → Line → Type 0
+Good n (Asked r) = Sound n r
+Good n PassedOver = Unit
+Good n BadLine = Unit
+
+-- room for the largest output buffer, and for the longest answer line: two digits a byte, two numbers of at most 20 digits, and four
+-- bytes more
+abbrev pub Enough : ℕ → ℕ → Type 0
+Enough output text = (20480 ≤ output) × (41004 ≤ text)

@@ -1,0 +1,84 @@
+// The answer lines. Each is put together whole, in a text that the caller lends, before any of it is written.
+ghost use mathlib.Core.Path.{_≡_};
+ghost use Prim.Native.Nat.{_+_, _*_, _≤_, _<_};
+ghost use lib.ListN.{length};
+use libc::STDOUT_FILENO;
+
+// Writes `NUMBER LENGTH OUTPUT`, and says whether it could be written.
+pub fn write_answer(text: &mut [u8], answer: link::Answer, output: &[u8]) -> bool
+    requires { ⌜ 2 * length (now output) + 44 ≤ length (now text) ⌝ }
+{
+    let at = put_number(text, 0, link::number(answer) as u64);
+    let at = put(text, at, b" ");
+    let at = put_number(text, at, link::length(answer) as u64);
+    let at = put(text, at, b" ");
+    let at = put_hex(text, at, output);
+    let end = put(text, at, b"\n");
+    io::write_all(STDOUT_FILENO, &text[0..end])
+}
+
+// Writes `bad line N`, and says whether it could be written.
+pub fn write_bad_line(text: &mut [u8], number: u64) -> bool
+    requires { ⌜ 30 ≤ length (now text) ⌝ }
+{
+    let at = put(text, 0, b"bad line ");
+    let at = put_number(text, at, number);
+    let end = put(text, at, b"\n");
+    io::write_all(STDOUT_FILENO, &text[0..end])
+}
+
+// Puts bytes into the text from `at` on, and answers where they end.
+fn put(text: &mut [u8], at: usize, bytes: &[u8]) -> usize
+    requires { ⌜ at + length (now bytes) ≤ length (now text) ⌝ }
+    ensures { λ r. ⌜ r ≡ at + length (now (bytes .entry)) ⌝ }
+{
+    let mut i = 0;
+    while i < bytes.len() {
+        text[at + i] = bytes[i];
+        i += 1;
+    }
+    at + i
+}
+
+// The same of a number's decimal digits.
+fn put_number(text: &mut [u8], at: usize, number: u64) -> usize
+    requires { ⌜ at + 20 ≤ length (now text) ⌝ }
+    ensures { λ r. ⌜ r ≤ at + 20 ⌝ }
+{
+    let mut digits = [0u8; 20];
+    let count = io::decimal(number, &mut digits);
+    put(text, at, &digits[0..count])
+}
+
+// The same of bytes as hexadecimal digits, two a byte, or `-` for no bytes.
+fn put_hex(text: &mut [u8], at: usize, bytes: &[u8]) -> usize
+    requires { ⌜ at + 2 * length (now bytes) + 1 ≤ length (now text) ⌝ }
+    ensures { λ r. ⌜ r ≤ at + 2 * length (now (bytes .entry)) + 1 ⌝ }
+{
+    if bytes.len() == 0 {
+        return put(text, at, b"-");
+    }
+    let mut i = 0;
+    while i < bytes.len() {
+        put_byte(text, at + 2 * i, bytes[i]);
+        i += 1;
+    }
+    at + 2 * i
+}
+
+fn put_byte(text: &mut [u8], at: usize, byte: u8)
+    requires { ⌜ at + 1 < length (now text) ⌝ }
+{
+    text[at] = hex_digit(byte / 16);
+    text[at + 1] = hex_digit(byte % 16);
+}
+
+fn hex_digit(value: u8) -> u8
+    requires { ⌜ value < 16 ⌝ }
+{
+    if value < 10 {
+        b'0' + value
+    } else {
+        b'a' + (value - 10)
+    }
+}

@@ -1,0 +1,156 @@
+-- Demand 1: whatever bytes and lengths come in, a call ends with done or one of the seven numbered refusals, in the fixed order.
+-- Refusals 1 to 6 change no buffer. Refusal 7 sets the first bytes of the output, as many as the ciphertext has, to zero and
+-- touches nothing behind them. Assumes nothing.
+use mathlib.Core.Path.{_≡_, refl, sym, ap, subst, _∙_}
+use mathlib.Core.Bool.{Bool, true, false, _||_}
+use mathlib.Core.Logic.{_⊎_, inl, inr}
+use mathlib.Core.List.{List, [], _∷_}
+use Prim.Native.Nat.{ℕ, _+_, _-_, _≤_}
+use native.Mathlib.Omega.{arith}
+use lib.Dec.{eqb, leb}
+use lib.ListN.{length}
+use Rattle.lists.specs.Lay.{lay}
+use Rattle.lists.specs.Zeros.{zeros}
+use Rattle.mode.specs.Opening.{Opened, accepted, refused, Allowed}
+use Rattle.passes.specs.Shown.{shown}
+use Rattle.link.specs.Answers.{numberOf, lengthOf}
+use Rattle.link.specs.Checks.{Check, pass, stop, from-to, unless, callCheck, sealCheck, openCheck, asAnswer}
+use Rattle.link.specs.Promises.{sealing, SealsBy, Seals, openedAs, OpensBy, Opens}
+use Rattle.link.specs.declared.answer.Answer.{Answer}
+use Rattle.link.specs.declared.answer.Answer.the-variants.{Done, Key, Nonce, Tag, Data, Length, Room, Forged}
+use Rattle.link.proofs.Verdicts.{Verdict, passes, stops, Called, open-verdict}
+use Rattle.demands.specs.Calls.{firstFailing, sealChecks, openChecks}
+use Rattle.demands.proofs.Decided.{pass-or-stop}
+
+-- the checks as a list and as an answer agree in the number
+number-of : (a b c d e f : Bool) (n : ℕ)
+    → numberOf (asAnswer (unless a Key (unless b Nonce (unless c Tag (unless d Data (unless e Length (unless f Room (pass n)))))))) ≡ firstFailing 1 (a ∷ b ∷ c ∷ d ∷ e ∷ f ∷ [])
+number-of true true true true true true n = refl
+number-of true true true true true false n = refl
+number-of true true true true false f n = refl
+number-of true true true false e f n = refl
+number-of true true false d e f n = refl
+number-of true false c d e f n = refl
+number-of false b c d e f n = refl
+
+-- the number of a call's answer is the first failing check's, at most 6
+at-most : (a b c d e f : Bool) → firstFailing 1 (a ∷ b ∷ c ∷ d ∷ e ∷ f ∷ []) ≡ 7 → ⊥
+at-most true true true true true true h = omega arith
+at-most true true true true true false h = omega arith
+at-most true true true true false f h = omega arith
+at-most true true true false e f h = omega arith
+at-most true true false d e f h = omega arith
+at-most true false c d e f h = omega arith
+at-most false b c d e f h = omega arith
+
+-- a refusal has length 0
+refusal-length : (r : Answer) → (numberOf r ≡ 0 → ⊥) → lengthOf r ≡ 0
+refusal-length (Done n) z = absurd (z refl)
+refusal-length Key z = refl
+refusal-length Nonce z = refl
+refusal-length Tag z = refl
+refusal-length Data z = refl
+refusal-length Length z = refl
+refusal-length Room z = refl
+refusal-length Forged z = refl
+
+-- ---- sealing
+by-seal : (c : Check) (bytes out : List ℕ) (r : Answer) (after : List ℕ) → SealsBy c bytes out r after
+    → (numberOf r ≡ numberOf (asAnswer c)) × ((numberOf r ≡ 0 → ⊥) → (lengthOf r ≡ 0) × (after ≡ out))
+by-seal (pass n) bytes out r after p = (ap numberOf (p .0), λ z. absurd (z (ap numberOf (p .0))))
+by-seal (stop x) bytes out r after p = (ap numberOf (p .0), λ z. (refusal-length r z, p .1))
+
+pub sealing-answers : (key nonce ad m : List ℕ) (t : ℕ) (out : List ℕ) (r : Answer) (after : List ℕ) → Seals key nonce ad m t out r after
+    → (numberOf r ≡ firstFailing 1 (sealChecks key nonce ad m t out)) × ((numberOf r ≡ 0 → ⊥) → (lengthOf r ≡ 0) × (after ≡ out))
+unfolding Seals sealCheck callCheck
+sealing-answers key nonce ad m t out r after p =
+    let q = by-seal (sealCheck (length key) (length nonce) t (length ad) (length m) (length out)) (sealing key nonce ad t m) out r after p in (
+      q .0
+          ∙ number-of (eqb (length key) 16 || (eqb (length key) 24 || eqb (length key) 32)) (from-to 1 14 (length nonce)) (from-to 4 16 t) (leb (length ad) 4096)
+          (leb (length m) 16384) (leb (length m + t) (length out)) (length m + t),
+      q .1,
+    )
+
+-- ---- opening
+-- what an opening comes back with, where i is the number of the first failing check and n that of message bytes
+pub record Answers (i n : ℕ) (out : List ℕ) (r : Answer) (after : List ℕ) : Type 0 where
+  -- a check that fails gives its own number, and changes nothing
+  pub stopped : (i ≡ 0 → ⊥) → (numberOf r ≡ i) × (lengthOf r ≡ 0) × (after ≡ out)
+  -- where none fails the answer is done or 7
+  pub through : i ≡ 0 → (numberOf r ≡ 0) ⊎ (numberOf r ≡ 7)
+  -- 7 leaves zeros over the message's bytes, and the rest as it was
+  pub forged : numberOf r ≡ 7 → (lengthOf r ≡ 0) × (after ≡ lay 0 (zeros n) out)
+
+by-open : (c : Check) (n : ℕ) (seal : List ℕ → List ℕ) (s out : List ℕ) (r : Answer) (after : List ℕ)
+    → (numberOf (asAnswer c) ≡ 7 → ⊥) → ((i : ℕ) → c ≡ pass i → i ≡ n) → ((x : Answer) → c ≡ stop x → numberOf x ≡ 0 → ⊥)
+    → OpensBy c seal s out r after → Answers (numberOf (asAnswer c)) n out r after
+by-open (pass i) n seal s out r after not7 at never (accepted m, q, h, e) =
+    record {
+      stopped = λ z. absurd (z refl);
+      through = λ z. inl (ap numberOf h);
+      forged = λ z. absurd (let k : numberOf r ≡ 0 = ap numberOf h in omega arith);
+    }
+by-open (pass i) n seal s out r after not7 at never (refused, q, h, e) =
+    record {
+      stopped = λ z. absurd (z refl);
+      through = λ z. inr (ap numberOf h);
+      forged = λ z. (ap lengthOf h, e ∙ ap (λ (k : ℕ). lay 0 (zeros k) out) (at i refl));
+    }
+by-open (stop x) n seal s out r after not7 at never p =
+    record {
+      stopped = λ z. (ap numberOf (p .0), refusal-length r (λ y. z (sym (ap numberOf (p .0)) ∙ y)), p .1);
+      through = λ z. absurd (never x refl z);
+      forged = λ z. absurd (not7 (sym (ap numberOf (p .0)) ∙ z));
+    }
+
+-- what the checks of opening come to
+same-pass : (i n : ℕ) → pass i ≡ pass n → i ≡ n
+same-pass i n e = cc
+
+module _ (P : Type 0) (n : ℕ) (c : Check) (v : Verdict P n c) where
+  pass-is : (i : ℕ) → c ≡ pass i → i ≡ n
+  pass-is i h = go v
+    where
+      go : Verdict P n c → i ≡ n
+      go (passes p e) = same-pass i n (sym h ∙ e)
+      go (stops x z e) = absurd (pass-or-stop i x (sym h ∙ e))
+
+  stop-is : (x : Answer) → c ≡ stop x → numberOf x ≡ 0 → ⊥
+  stop-is x h k = go v
+    where
+      go : Verdict P n c → ⊥
+      go (passes p e) = pass-or-stop n x (sym e ∙ h)
+      go (stops y z e) =
+          let same : stop y ≡ stop x = sym e ∙ h in
+          let yx : y ≡ x = cc in
+          z (ap numberOf yx ∙ k)
+
+pub opening-answers : (key nonce ad s : List ℕ) (t : ℕ) (out : List ℕ) (r : Answer) (after : List ℕ) → Opens key nonce ad s t out r after
+    → Answers (firstFailing 1 (openChecks key nonce ad s t out)) (length s - t) out r after
+unfolding Opens openCheck callCheck
+opening-answers key nonce ad s t out r after p =
+    subst (λ (i : ℕ). Answers i (length s - t) out r after) number
+    (by-open checks (length s - t) (sealing key nonce ad t) s out r after not7
+    (pass-is Fits (length s - t) checks verdict) (stop-is Fits (length s - t) checks verdict) p)
+  where
+    key-in : Bool
+    key-in = eqb (length key) 16 || (eqb (length key) 24 || eqb (length key) 32)
+
+    checks : Check
+    checks = openCheck (length key) (length nonce) t (length ad) (length s) (length out)
+
+    Fits : Type 0
+    Fits = Called (length key) (length nonce) t (length ad) × (t ≤ length s) × (length s ≤ 16384 + t) × (length s - t ≤ length out)
+
+    verdict : Verdict Fits (length s - t) checks
+    verdict = open-verdict (length key) (length nonce) t (length ad) (length s) (length out)
+
+    number : numberOf (asAnswer checks) ≡ firstFailing 1 (openChecks key nonce ad s t out)
+    number =
+        number-of key-in (from-to 1 14 (length nonce)) (from-to 4 16 t) (leb (length ad) 4096) (from-to t (16384 + t) (length s))
+        (leb (length s - t) (length out)) (length s - t)
+
+    not7 : numberOf (asAnswer checks) ≡ 7 → ⊥
+    not7 h =
+        at-most key-in (from-to 1 14 (length nonce)) (from-to 4 16 t) (leb (length ad) 4096) (from-to t (16384 + t) (length s))
+        (leb (length s - t) (length out)) (sym number ∙ h)

@@ -1,0 +1,5 @@
+pub mod Decided
+pub mod Limits
+pub mod Demand1
+pub mod Demand2
+pub mod Demand3

@@ -1,0 +1,35 @@
+-- Within the limits every check passes. Assumes nothing.
+use mathlib.Core.Path.{_≡_, refl, sym, ap, ap₂, _∙_}
+use mathlib.Core.Bool.{Bool, true, false, _&&_, _||_}
+use mathlib.Core.Logic.{_⊎_, inl, inr}
+use Prim.Native.Nat.{ℕ, _+_, _-_, _≤_}
+use lib.Dec.{eqb, leb}
+use borrow.Author.Tests.{le-leb, eq-eqb}
+use Rattle.link.specs.Checks.{Check, pass, from-to, unless, callCheck, sealCheck, openCheck}
+use Rattle.link.specs.declared.answer.Answer.the-variants.{Length, Room}
+use Rattle.demands.specs.Calls.{Limits}
+
+known : (k : ℕ) → (k ≡ 16) ⊎ ((k ≡ 24) ⊎ (k ≡ 32)) → (eqb k 16 || (eqb k 24 || eqb k 32)) ≡ true
+known k (inl e) = rw e
+known k (inr (inl e)) = rw e
+known k (inr (inr e)) = rw e
+
+range : (l h a : ℕ) → l ≤ a → a ≤ h → from-to l h a ≡ true
+range l h a p q = ap₂ _&&_ (le-leb l a p) (le-leb a h q)
+
+module _ (key nonce t ad : ℕ) where
+  call-passes : (next : Check) → Limits key nonce t ad → callCheck key nonce t ad next ≡ next
+  unfolding callCheck
+  call-passes next f =
+      rw (known key (f .keys), range 1 14 nonce (f .nonces .0) (f .nonces .1), range 4 16 t (f .tags .0) (f .tags .1), le-leb ad 4096 (f .most))
+
+  pub seal-passes : (m o : ℕ) → Limits key nonce t ad → m ≤ 16384 → m + t ≤ o → sealCheck key nonce t ad m o ≡ pass (m + t)
+  unfolding sealCheck
+  seal-passes m o f p q =
+      call-passes (unless (leb m 16384) Length (unless (leb (m + t) o) Room (pass (m + t)))) f ∙ rw (le-leb m 16384 p, le-leb (m + t) o q)
+
+  pub open-passes : (s o : ℕ) → Limits key nonce t ad → t ≤ s → s ≤ 16384 + t → s - t ≤ o → openCheck key nonce t ad s o ≡ pass (s - t)
+  unfolding openCheck
+  open-passes s o f p q r =
+      call-passes (unless (from-to t (16384 + t) s) Length (unless (leb (s - t) o) Room (pass (s - t)))) f
+      ∙ rw (range t (16384 + t) s p q, le-leb (s - t) o r)
