@@ -1,0 +1,232 @@
+-- Wrong programs, each with a named input at which its result does not meet the promise. Assumes nothing.
+use mathlib.Core.Path.{_≡_, refl, sym, ap, _∙_}
+use mathlib.Core.Bool.{false}
+use mathlib.Core.Logic.{_⊎_, inl, inr}
+use mathlib.Core.List.{List, [], _∷_, _++_, append-assoc}
+use Prim.Native.Nat.{ℕ, _+_, _*_, _≤_, _<_}
+use native.Mathlib.Nat.{add-zero}
+use native.Mathlib.Omega.{arith}
+use lib.Bits.{bitXor}
+use lib.ListN.{length, getD, length-drop, List·getD-append}
+use lib.Seq.{getD-append-add, getD-drop}
+use Rattle.lists.specs.Hex.{bytes}
+use Rattle.lists.specs.Xor.{xor}
+use Rattle.lists.specs.Zeros.{zeros}
+use Rattle.lists.proofs.Laid.{lay-whole}
+use Rattle.lists.proofs.Xor.{length-xor, getD-xor}
+use Rattle.field.specs.Field.{product, inverse}
+use Rattle.field.specs.Substitution.{affine, substitute}
+use Rattle.aes.specs.Cipher.{addRoundKey, round, lastRound, rounds, cipher}
+use Rattle.aes.specs.Expansion.{power, temp, next, words, keyExpansion, aes}
+use Rattle.block.specs.Block.{shift, double}
+use Rattle.mode.specs.Masks.{IsCipher, doubles, third}
+use Rattle.mode.specs.Message.{blocks, pairsOf, even, rest, pairs}
+use Rattle.mode.specs.Data.{ta}
+use Rattle.mode.specs.Nonce.{format}
+use Rattle.mode.specs.Sealing.{tag, sealed, otr}
+use Rattle.mode.proofs.Pairs.{length-pairs}
+use Rattle.mode.proofs.Parts.{body-parts}
+use Rattle.mode.proofs.Third.{length-doubles, third-masks, length-format, length-otr, otr-injective}
+use Rattle.link.specs.Answers.{numberOf}
+use Rattle.link.specs.Promises.{Seals, Opens}
+use Rattle.link.specs.declared.answer.Answer.{Answer}
+use Rattle.link.proofs.Entries.{aes-cipher}
+use Rattle.demands.specs.Calls.{Limits}
+use Rattle.demands.proofs.Demand2.{is-sealed, round-trip}
+use Rattle.demands.proofs.Demand3.{opening}
+
+-- ---- the named input: a key of 16 zeros, a nonce of 12, no associated data, 16 bytes of tag; messages of one byte, 0 and 1
+abbrev pub key : List ℕ
+key = bytes 16 0
+
+abbrev pub nonce : List ℕ
+nonce = bytes 12 0
+
+abbrev pub m0 : List ℕ
+m0 = 0 ∷ []
+
+abbrev pub m1 : List ℕ
+m1 = 1 ∷ []
+
+-- buffers of 17 zeros, and of one
+abbrev pub room : List ℕ
+room = bytes 17 0
+
+abbrev pub small : List ℕ
+small = 0 ∷ []
+
+limits : Limits 16 12 16 0
+limits = record { keys = inl refl; nonces = (omega arith, omega arith); tags = (omega arith, omega arith); most = omega arith }
+
+-- the sealed strings of the two messages
+pub s0 : List ℕ
+s0 = otr (aes key) nonce [] 16 m0
+
+pub s1 : List ℕ
+s1 = otr (aes key) nonce [] 16 m1
+
+differ : m0 ≡ m1 → ⊥
+differ e =
+    let z : _≡_ {A = ℕ} 0 1 = ap (λ (l : List ℕ). getD l 0 0) e in
+    omega arith
+
+injective : s0 ≡ s1 → ⊥
+unfolding s0 s1
+injective e = differ (otr-injective (aes key) (aes-cipher key) nonce [] 16 (omega arith) (omega arith) m0 m1 e)
+
+long : (x : ℕ) → length (otr (aes key) nonce [] 16 (x ∷ [])) ≡ 17
+long x = length-otr (aes key) (aes-cipher key) nonce [] 16 (omega arith) (omega arith) (x ∷ [])
+
+-- a buffer of 17 bytes is the sealed string afterwards
+seal-0 : (r : Answer) (after : List ℕ) → Seals key nonce [] m0 16 room r after → (numberOf r ≡ 0) × (after ≡ s0)
+unfolding s0
+seal-0 r after p =
+    let q = is-sealed key nonce [] m0 16 limits (omega arith) room (omega arith) r after p in
+    (ap numberOf (q .0), q .1 ∙ lay-whole (otr (aes key) nonce [] 16 m0) room (omega (arith, long 0)))
+
+seal-1 : (r : Answer) (after : List ℕ) → Seals key nonce [] m1 16 room r after → (numberOf r ≡ 0) × (after ≡ s1)
+unfolding s1
+seal-1 r after p =
+    let q = is-sealed key nonce [] m1 16 limits (omega arith) room (omega arith) r after p in
+    (ap numberOf (q .0), q .1 ∙ lay-whole (otr (aes key) nonce [] 16 m1) room (omega (arith, long 1)))
+
+open-0 : (r : Answer) (after : List ℕ) → Opens key nonce [] s0 16 small r after → (numberOf r ≡ 0) × (after ≡ m0)
+unfolding s0
+open-0 r after p =
+    let q = round-trip key nonce [] m0 16 limits (omega arith) small (omega arith) r after p in
+    (ap numberOf (q .0), q .1)
+
+open-1 : (r : Answer) (after : List ℕ) → Opens key nonce [] s1 16 small r after → (numberOf r ≡ 0) × (after ≡ m1)
+unfolding s1
+open-1 r after p =
+    let q = round-trip key nonce [] m1 16 limits (omega arith) small (omega arith) r after p in
+    (ap numberOf (q .0), q .1)
+
+-- ---- refuses everything
+pub refuses-sealing : (r : Answer) (after : List ℕ) → (numberOf r ≡ 0 → ⊥) → Seals key nonce [] m0 16 room r after → ⊥
+refuses-sealing r after z p = z (seal-0 r after p .0)
+
+pub refuses-opening : (r : Answer) (after : List ℕ) → (numberOf r ≡ 0 → ⊥) → Opens key nonce [] s0 16 small r after → ⊥
+refuses-opening r after z p = z (open-0 r after p .0)
+
+-- ---- one fixed ciphertext, or message, for all: it cannot be right for both
+pub fixed-ciphertext : (r r′ : Answer) (after : List ℕ) → Seals key nonce [] m0 16 room r after → Seals key nonce [] m1 16 room r′ after → ⊥
+fixed-ciphertext r r′ after p q = injective (sym (seal-0 r after p .1) ∙ seal-1 r′ after q .1)
+
+pub fixed-message : (r r′ : Answer) (after : List ℕ) → Opens key nonce [] s0 16 small r after → Opens key nonce [] s1 16 small r′ after → ⊥
+fixed-message r r′ after p q = differ (sym (open-0 r after p .1) ∙ open-1 r′ after q .1)
+
+-- ---- opening accepts only empty messages: it answers 7 to a sealed byte
+pub only-empty : (r : Answer) (after : List ℕ) → numberOf r ≡ 7 → Opens key nonce [] s0 16 small r after → ⊥
+only-empty r after h p = let z = open-0 r after p .0 in omega arith
+
+-- ---- opening accepts any tag: an empty message has one tag, and not both of these
+empty : (m : List ℕ) → length m ≡ 0 → m ≡ []
+empty [] h = refl
+empty (x ∷ m) h = absurd (omega arith)
+
+-- what seals to 16 bytes is empty
+none : (m s : List ℕ) → length s ≡ 16 → otr (aes key) nonce [] 16 m ≡ s → m ≡ []
+none m s h e =
+    empty m (omega (arith, length-otr (aes key) (aes-cipher key) nonce [] 16 (omega arith) (omega arith) m, ap length e))
+
+pub any-tag : (r r′ : Answer) (a a′ : List ℕ) → numberOf r ≡ 0 → numberOf r′ ≡ 0
+    → Opens key nonce [] (bytes 16 0) 16 [] r a → Opens key nonce [] (bytes 16 1) 16 [] r′ a′ → ⊥
+any-tag r r′ a a′ h h′ p q =
+    let f = opening key nonce [] (bytes 16 0) 16 [] r a limits (omega arith) (omega arith) (omega arith) p .done h in
+    let g = opening key nonce [] (bytes 16 1) 16 [] r′ a′ limits (omega arith) (omega arith) (omega arith) q .done h′ in
+    let same : f .0 ≡ g .0 = none (f .0) (bytes 16 0) refl (f .1) ∙ sym (none (g .0) (bytes 16 1) refl (g .1)) in
+    let e : bytes 16 0 ≡ bytes 16 1 = sym (f .1) ∙ ap (otr (aes key) nonce [] 16) same ∙ g .1 in
+    let z : _≡_ {A = ℕ} 0 1 = ap (λ (l : List ℕ). getD l 15 0) e in
+    omega arith
+
+-- ---- the first byte of E(U), and of E(2U), under the named key and nonce: neither is 0
+u : List ℕ
+u = aes key (format 16 nonce)
+
+first-mask : getD (aes key u) 0 0 ≡ 0xe0
+unfolding u xor zeros format product inverse affine substitute addRoundKey round lastRound rounds cipher power temp next words keyExpansion aes
+first-mask = refl
+
+second-mask : getD (aes key (double u)) 0 0 ≡ 0x3a
+unfolding u xor zeros format shift double product inverse affine substitute addRoundKey round lastRound rounds cipher power temp next words keyExpansion aes
+second-mask = refl
+
+-- the byte of a sealed string behind its pairs, where one block remains
+module _ (E : List ℕ → List ℕ) (e : IsCipher E) (v a m : List ℕ) (hv : length v ≡ 16) (odd : even (length m) ≡ false)
+    (some : 32 * pairsOf (length m) < length m) where
+  n : ℕ
+  n = pairsOf (length m)
+
+  front : List ℕ
+  front = pairs E (third v) n m
+
+  end : List ℕ
+  end = xor (rest m) (E (doubles n v))
+
+  front-long : length front ≡ 32 * n
+  unfolding n front
+  front-long = length-pairs E e (third v) (third-masks v hv) n m (omega arith)
+
+  rest-some : 0 < length (rest m)
+  rest-some = omega (arith, length-drop (32 * pairsOf (length m)) m)
+
+  mask-long : length (E (doubles n v)) ≡ 16
+  mask-long = e (doubles n v) (length-doubles n v hv)
+
+  byte-behind : getD (sealed E (third v) a 16 m) (32 * pairsOf (length m)) 0 ≡ bitXor (getD m (32 * pairsOf (length m)) 0) (getD (E (doubles (pairsOf (length m)) v)) 0 0)
+  unfolding n front end sealed
+  byte-behind =
+      ap (λ (l : List ℕ). getD (l ++ t) (32 * n) 0) (body-parts E (third v) false m odd)
+      ∙ ap (λ (l : List ℕ). getD l (32 * n) 0) (append-assoc front end t)
+      ∙ ap (λ (i : ℕ). getD (front ++ (end ++ t)) i 0) place
+      ∙ getD-append-add front (end ++ t) 0 0
+      ∙ List·getD-append end t 0 0 (omega (arith, length-xor (rest m) (E (doubles n v)), rest-some, mask-long))
+      ∙ getD-xor 0 (rest m) (E (doubles n v)) rest-some (omega (arith, mask-long))
+      ∙ ap (λ (x : ℕ). bitXor x (getD (E (doubles n v)) 0 0)) (getD-drop (32 * n) m 0 0 ∙ ap (λ (i : ℕ). getD m i 0) (add-zero (32 * n)))
+    where
+      t : List ℕ
+      t = tag E (third v) a 16 m
+
+      place : 32 * n ≡ length front + 0
+      place = omega (arith, front-long)
+
+u-long : length u ≡ 16
+unfolding u
+u-long = aes-cipher key (format 16 nonce) (length-format 16 nonce (omega arith))
+
+-- ---- copies the plaintext through, or is done and writes nothing: the first byte would still be 0
+first-byte : getD s0 0 0 ≡ 0xe0
+unfolding s0 u blocks pairsOf even doubles
+first-byte =
+    byte-behind (aes key) (aes-cipher key) u (ta (aes key) []) m0 u-long refl (omega arith)
+    ∙ ap (bitXor 0) first-mask
+
+pub copies-through : (r : Answer) (after : List ℕ) → getD after 0 0 ≡ 0 → Seals key nonce [] m0 16 room r after → ⊥
+copies-through r after h p =
+    let z : getD after 0 0 ≡ 0xe0 = ap (λ (l : List ℕ). getD l 0 0) (seal-0 r after p .1) ∙ first-byte in
+    omega arith
+
+pub writes-nothing : (r : Answer) → Seals key nonce [] m0 16 room r room → ⊥
+writes-nothing r p = copies-through r room refl p
+
+-- ---- seals the first pair and copies the rest: of 33 zeros the last byte would still be 0
+abbrev pub m33 : List ℕ
+m33 = bytes 33 0
+
+abbrev pub room33 : List ℕ
+room33 = bytes 49 0
+
+byte-32 : getD (otr (aes key) nonce [] 16 m33) 32 0 ≡ 0x3a
+unfolding u blocks pairsOf even doubles
+byte-32 =
+    byte-behind (aes key) (aes-cipher key) u (ta (aes key) []) m33 u-long refl (omega arith)
+    ∙ ap (bitXor 0) second-mask
+
+pub first-pair-alone : (r : Answer) (after : List ℕ) → getD after 32 0 ≡ 0 → Seals key nonce [] m33 16 room33 r after → ⊥
+first-pair-alone r after h p =
+    let q = is-sealed key nonce [] m33 16 limits (omega arith) room33 (omega arith) r after p in
+    let s = otr (aes key) nonce [] 16 m33 in
+    let s-long : length s ≡ 49 = length-otr (aes key) (aes-cipher key) nonce [] 16 (omega arith) (omega arith) m33 in
+    let z : getD after 32 0 ≡ 0x3a = ap (λ (l : List ℕ). getD l 32 0) (q .1 ∙ lay-whole s room33 (omega arith)) ∙ byte-32 in
+    omega arith
