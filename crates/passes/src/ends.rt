@@ -63,9 +63,9 @@ fn open_two(
     let last = block::read(c, at + 16, n);
     let padded = block::pad(last, n);
     let first = half(table, w, nr, r, padded, block::read_block(c, at));
-    let z = aes::encrypt(table, w, nr, block::xor(l, first));
-    put_two(out, at, first, block::xor(last, z), n);
-    block::xor(z, padded)
+    let e = aes::encrypt(table, w, nr, block::xor(l, first));
+    put_two(out, at, first, block::xor(last, e), n);
+    block::xor(e, padded)
 }
 
 // One block from place at on, sealed or undone: what was written comes back, with no meaning behind its end.

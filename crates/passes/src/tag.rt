@@ -25,9 +25,9 @@ pub fn clear(out: &mut [u8], n: usize)
     requires { ⌜ n ≤ length (now out) ⌝ }
     ensures { λ _. ⌜ now (out .exit) ≡ lay 0 (zeros n) (now (out .entry)) ⌝ }
 {
-    let mut i = 0;
-    while i < n {
-        out[i] = 0;
-        i += 1;
+    let mut k = 0;
+    while k < n {
+        out[k] = 0;
+        k += 1;
     }
 }

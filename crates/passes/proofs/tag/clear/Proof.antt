@@ -1,4 +1,4 @@
--- `passes::tag::clear` meets its contract. The loop's invariant: the first i bytes are zeros. Assumes nothing.
+-- `passes::tag::clear` meets its contract. The loop's invariant: the first k bytes are zeros. Assumes nothing.
 use mathlib.Core.Path.{_≡_, refl, sym, ap, _∙_}
 use mathlib.Core.List.{List}
 use Prim.Native.Nat.{ℕ, _-_, _≤_}
@@ -14,10 +14,10 @@ use Rattle.passes.proofs.tag.clear.Statement.{statement}
 use Rattle.passes.proofs.tag.clear.Tie as tie
 
 abbrev Inv-loop : tie.InvT-loop
-Inv-loop out₀ n i₀ out i = (i ≤ n) × (out ≡ lay 0 (take i (zeros n)) out₀) × (length out ≡ length out₀)
+Inv-loop out₀ n k₀ out k = (k ≤ n) × (out ≡ lay 0 (take k (zeros n)) out₀) × (length out ≡ length out₀)
 
 abbrev μ-loop : tie.MeasureT-loop
-μ-loop out₀ n i₀ out i = n - i
+μ-loop out₀ n k₀ out k = n - k
 
 loop-holds : tie.Need-loop-holds Inv-loop μ-loop
 loop-holds c = (search needs, sym (front-none (c .args .out .now)), refl)
@@ -28,9 +28,9 @@ loop-again c =
     let v = c .before .before .args in
     let h = c .before .loop in (
       search needs,
-      ap (λ (l : List ℕ). set l (h .i) 0) (h .inv .1)
-          ∙ ap (set (lay 0 (take (h .i) (zeros (v .n))) (v .out .now)) (h .i)) (sym (getD-replicate (v .n) (h .i) 0 0 (c .loop-test .taken)))
-          ∙ front-more (zeros (v .n)) (v .out .now) (h .i) (omega (arith, length-zeros (v .n))) (omega (arith, length-zeros (v .n))),
+      ap (λ (l : List ℕ). set l (h .k) 0) (h .inv .1)
+          ∙ ap (set (lay 0 (take (h .k) (zeros (v .n))) (v .out .now)) (h .k)) (sym (getD-replicate (v .n) (h .k) 0 0 (c .loop-test .taken)))
+          ∙ front-more (zeros (v .n)) (v .out .now) (h .k) (omega (arith, length-zeros (v .n))) (omega (arith, length-zeros (v .n))),
       simp length-set (h .inv .2),
     )
 
@@ -38,7 +38,7 @@ returns : tie.Need-returns Inv-loop μ-loop
 returns c =
     let v = c .before .before .args in
     let h = c .before .loop in
-    h .inv .1 ∙ ap (λ (l : List ℕ). lay 0 l (v .out .now)) (take-all (h .i) (zeros (v .n)) (omega (arith, length-zeros (v .n))))
+    h .inv .1 ∙ ap (λ (l : List ℕ). lay 0 l (v .out .now)) (take-all (h .k) (zeros (v .n)) (omega (arith, length-zeros (v .n))))
 
 pub clear-spec : {M : Type 1} → statement M
 clear-spec =
