@@ -6,6 +6,7 @@ mod aes_rows;
 mod block;
 mod call;
 mod failure;
+mod files;
 mod generator;
 mod hex;
 mod known;
@@ -17,9 +18,11 @@ mod rows;
 mod rules;
 mod seam_lengths;
 mod seam_requests;
+mod seams;
 mod standin;
 #[cfg(test)]
 mod tests;
+mod tour;
 
 use std::env;
 use std::io::{self, Write};
@@ -55,8 +58,9 @@ fn run(words: &[String]) -> Result<String, Failure> {
     };
     match (command.as_str(), rest) {
         ("standin", []) => Ok(standin::command()),
-        ("aes-rows", []) => Ok(aes_rows::command_aes_rows()),
-        ("seams", []) => Ok(aes_rows::command_seams()),
+        ("aes-rows", []) => Ok(aes_rows::command()),
+        ("seams", [requests, answers]) => seams::command(requests, answers),
+        ("tour", [requests, answers]) => tour::command(requests, answers),
         ("requests", _) => requests::command(rest),
         ("known", _) => known::command(rest),
         _ => Err(usage()),
@@ -66,7 +70,8 @@ fn run(words: &[String]) -> Result<String, Failure> {
 fn usage() -> Failure {
     let text = "usage: second standin\n\
                 \u{20}      second aes-rows\n\
-                \u{20}      second seams\n\
+                \u{20}      second seams FILE_REQUESTS FILE_ANSWERS\n\
+                \u{20}      second tour FILE_REQUESTS FILE_ANSWERS\n\
                 \u{20}      second requests SEED COUNT FILE_REQUESTS FILE_ANSWERS\n\
                 \u{20}      second known FILE...";
     bad_input(text.to_string())

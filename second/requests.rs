@@ -1,8 +1,7 @@
 //! The command `requests`: the file of requests and the file of answers.
 
-use std::fs;
-
 use crate::failure::{bad_input, Failure};
+use crate::files;
 use crate::generator::Generator;
 use crate::random_requests::random_request;
 use crate::seam_requests::seam_requests;
@@ -22,24 +21,11 @@ pub fn command(arguments: &[String]) -> Result<String, Failure> {
     }
     let mut requests = seam_requests();
     requests.extend((0..count).map(|_| random_request(draw)));
-    let request_lines: String = requests
-        .iter()
-        .map(|request| request.request_line())
-        .collect();
-    let answer_lines: String = requests
-        .iter()
-        .map(|request| request.answer_line())
-        .collect();
-    write(file_requests, &request_lines)?;
-    write(file_answers, &answer_lines)?;
+    files::write_requests(&requests, file_requests, file_answers)?;
     Ok(format!("requests {}\n", requests.len()))
 }
 
 fn number(name: &str, text: &str) -> Result<u64, Failure> {
     text.parse()
         .map_err(|_| bad_input(format!("requests: {name} is not a number: {text}")))
-}
-
-fn write(file: &str, lines: &str) -> Result<(), Failure> {
-    fs::write(file, lines).map_err(|error| bad_input(format!("{file}: {error}")))
 }
