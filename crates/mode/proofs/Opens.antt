@@ -17,6 +17,12 @@ use Rattle.mode.specs.Undoing.{unbody, answer, plain, opened}
 use Rattle.mode.proofs.Walk.{length-body, body-undone, unbody-sealed}
 use Rattle.mode.proofs.Tag.{length-tag}
 
+-- either exactly one message seals to the string x, and the answer o is that one; or none does, and the answer is to refuse
+abbrev pub OneOrNone : (List ℕ → List ℕ) → List ℕ → Opened → Type 0
+OneOrNone seal x o =
+    ((m : List ℕ) × (seal m ≡ x) × ((n : List ℕ) → seal n ≡ x → n ≡ m) × (o ≡ accepted m))
+    ⊎ (((m : List ℕ) → seal m ≡ x → ⊥) × (o ≡ refused))
+
 module _ (E : List ℕ → List ℕ) (e : IsCipher E) (k : Masks) (s : AreMasks k) (a : List ℕ) (ha : length a ≡ 16) (t : ℕ) (ht : t ≤ 16) where
   -- the sealed string is t bytes longer than the message
   pub length-sealed : (m : List ℕ) → length (sealed E k a t m) ≡ length m + t
@@ -75,14 +81,10 @@ module _ (E : List ℕ → List ℕ) (e : IsCipher E) (k : Masks) (s : AreMasks 
   pub round-trip : (m : List ℕ) → opened E k a t (sealed E k a t m) ≡ accepted m
   round-trip m = sym (only (sealed E k a t m) (accepted m) (omega (arith, length-sealed m)) refl)
 
-  -- the same in one statement: exactly one message seals to the string, and opening finds it; or none does, and opening refuses
-  pub opening : (x : List ℕ) → t ≤ length x
-      → ((m : List ℕ) × (sealed E k a t m ≡ x) × ((n : List ℕ) → sealed E k a t n ≡ x → n ≡ m) × (opened E k a t x ≡ accepted m))
-      ⊎ (((m : List ℕ) → sealed E k a t m ≡ x → ⊥) × (opened E k a t x ≡ refused))
-  opening x h = go (opened E k a t x) refl (opens x h)
+  -- the same in one statement, for every string of at least t bytes
+  pub opening : (x : List ℕ) → t ≤ length x → OneOrNone (sealed E k a t) x (opened E k a t x)
+  opening x h = go (opened E k a t x) (opens x h)
     where
-      go : (o : Opened) → opened E k a t x ≡ o → Allowed (sealed E k a t) x o
-          → ((m : List ℕ) × (sealed E k a t m ≡ x) × ((n : List ℕ) → sealed E k a t n ≡ x → n ≡ m) × (opened E k a t x ≡ accepted m))
-          ⊎ (((m : List ℕ) → sealed E k a t m ≡ x → ⊥) × (opened E k a t x ≡ refused))
-      go (accepted m) e q = inl (m, q, λ n r. injective n m (r ∙ sym q), e)
-      go refused e q = inr (q, e)
+      go : (o : Opened) → Allowed (sealed E k a t) x o → OneOrNone (sealed E k a t) x o
+      go (accepted m) q = inl (m, q, λ n r. injective n m (r ∙ sym q), refl)
+      go refused q = inr (q, refl)

@@ -1,4 +1,4 @@
--- AES-OTR v3.1 with parallel data, over any cipher: its masks are masks, its TA has 16 bytes, and so the theorem about opening holds
+-- AES-OTR v3.1 with parallel data, over any cipher: its masks are masks, its TA has 16 bytes, and so every theorem of the mode holds
 -- for it. Assumes nothing.
 use mathlib.Core.Path.{_≡_, refl, ap, _∙_}
 use mathlib.Core.Bool.{Bool, true, false}
@@ -13,15 +13,17 @@ use Rattle.lists.proofs.Zeros.{length-zeros}
 use Rattle.block.specs.Block.{pad, triple, tripleTwice}
 use Rattle.block.proofs.Blocks.{length-pad}
 use Rattle.block.proofs.Doubling.{length-double, length-triple, length-seven}
-use Rattle.mode.specs.Masks.{IsCipher, AreMasks, doubles, doubled, third}
-use Rattle.mode.specs.Message.{blocks, block}
+use Rattle.mode.specs.Masks.{Masks, IsCipher, AreMasks, doubles, doubled, third}
+use Rattle.mode.specs.Message.{blocks, block, body}
 use Rattle.mode.specs.Data.{q, dataSum, dataFinal, dataEnd, ta}
 use Rattle.mode.specs.Nonce.{format}
-use Rattle.mode.specs.Sealing.{otr}
+use Rattle.mode.specs.Sealing.{tag, otr}
 use Rattle.mode.specs.Opening.{Opened, accepted, Allowed}
-use Rattle.mode.specs.Undoing.{opened}
+use Rattle.mode.specs.Undoing.{unbody, opened}
 use Rattle.mode.proofs.Pairs.{length-block}
 use Rattle.mode.proofs.Tag.{xor-sixteen}
+use Rattle.mode.proofs.Walk as Walk
+use Rattle.mode.proofs.Tag as Tag
 use Rattle.mode.proofs.Opens as Opens
 
 pub length-doubles : (i : ℕ) (x : List ℕ) → length x ≡ 16 → length (doubles i x) ≡ 16
@@ -89,25 +91,46 @@ module _ (E : List ℕ → List ℕ) (e : IsCipher E) where
       let n = blocks (length (b ∷ bs)) - 1 in
       length-dataEnd n (b ∷ bs) (drop (16 * n) (b ∷ bs)) (omega arith) (omega (arith, length-drop (16 * n) (b ∷ bs)))
 
--- ---- the theorem about opening, for v3.1
+-- ---- the theorems, for v3.1
 module _ (E : List ℕ → List ℕ) (e : IsCipher E) (nonce ad : List ℕ) (t : ℕ) (hn : length nonce ≤ 14) (ht : t ≤ 16) where
-  u-masks : AreMasks (third (E (format t nonce)))
-  u-masks = third-masks (E (format t nonce)) (e (format t nonce) (length-format t nonce hn))
+  abbrev masks : Masks
+  masks = third (E (format t nonce))
+
+  are-masks : AreMasks masks
+  are-masks = third-masks (E (format t nonce)) (e (format t nonce) (length-format t nonce hn))
 
   abbrev opened-otr : List ℕ → Opened
-  opened-otr = opened E (third (E (format t nonce))) (ta E ad) t
+  opened-otr = opened E masks (ta E ad) t
+
+  -- lengths: the ciphertext is as long as the message, the tag has t bytes, and so the whole
+  pub otr-length-body : (m : List ℕ) → length (body E masks m) ≡ length m
+  otr-length-body = Walk.length-body E e masks are-masks
+
+  pub otr-length-tag : (m : List ℕ) → length (tag E masks (ta E ad) t m) ≡ t
+  otr-length-tag = Tag.length-tag E e masks are-masks (ta E ad) t (length-ta E e ad) ht
 
   pub length-otr : (m : List ℕ) → length (otr E nonce ad t m) ≡ length m + t
-  length-otr = Opens.length-sealed E e (third (E (format t nonce))) u-masks (ta E ad) (length-ta E e ad) t ht
+  length-otr = Opens.length-sealed E e masks are-masks (ta E ad) (length-ta E e ad) t ht
 
+  -- undoing after sealing, and sealing after undoing
+  pub otr-undone : (m : List ℕ) → unbody E masks (body E masks m) ≡ m
+  otr-undone = Walk.body-undone E e masks are-masks
+
+  pub otr-sealed : (c : List ℕ) → body E masks (unbody E masks c) ≡ c
+  otr-sealed = Walk.unbody-sealed E e masks are-masks
+
+  -- opening
   pub otr-injective : (m n : List ℕ) → otr E nonce ad t m ≡ otr E nonce ad t n → m ≡ n
-  otr-injective = Opens.injective E e (third (E (format t nonce))) u-masks (ta E ad) (length-ta E e ad) t ht
+  otr-injective = Opens.injective E e masks are-masks (ta E ad) (length-ta E e ad) t ht
 
   pub otr-opens : (x : List ℕ) → t ≤ length x → Allowed (otr E nonce ad t) x (opened-otr x)
-  otr-opens = Opens.opens E e (third (E (format t nonce))) u-masks (ta E ad) (length-ta E e ad) t ht
+  otr-opens = Opens.opens E e masks are-masks (ta E ad) (length-ta E e ad) t ht
+
+  pub otr-opening : (x : List ℕ) → t ≤ length x → Opens.OneOrNone (otr E nonce ad t) x (opened-otr x)
+  otr-opening = Opens.opening E e masks are-masks (ta E ad) (length-ta E e ad) t ht
 
   pub otr-one-answer : (x : List ℕ) (o p : Opened) → Allowed (otr E nonce ad t) x o → Allowed (otr E nonce ad t) x p → o ≡ p
-  otr-one-answer = Opens.one-answer E e (third (E (format t nonce))) u-masks (ta E ad) (length-ta E e ad) t ht
+  otr-one-answer = Opens.one-answer E e masks are-masks (ta E ad) (length-ta E e ad) t ht
 
   pub otr-round-trip : (m : List ℕ) → opened-otr (otr E nonce ad t m) ≡ accepted m
-  otr-round-trip = Opens.round-trip E e (third (E (format t nonce))) u-masks (ta E ad) (length-ta E e ad) t ht
+  otr-round-trip = Opens.round-trip E e masks are-masks (ta E ad) (length-ta E e ad) t ht
