@@ -5,7 +5,7 @@ use mathlib.Core.Path.{_≡_, refl, sym, ap, subst, _∙_}
 use mathlib.Core.Bool.{Bool, true, false, _||_}
 use mathlib.Core.Logic.{_⊎_, inl, inr}
 use mathlib.Core.List.{List, [], _∷_}
-use Prim.Native.Nat.{ℕ, _+_, _-_, _≤_}
+use Prim.Native.Nat.{ℕ, suc, _+_, _-_, _≤_, _<_}
 use native.Mathlib.Omega.{arith}
 use lib.Dec.{eqb, leb}
 use lib.ListN.{length}
@@ -33,15 +33,11 @@ number-of true true false d e f n = refl
 number-of true false c d e f n = refl
 number-of false b c d e f n = refl
 
--- the number of a call's answer is the first failing check's, at most 6
-at-most : (a b c d e f : Bool) → firstFailing 1 (a ∷ b ∷ c ∷ d ∷ e ∷ f ∷ []) ≡ 7 → ⊥
-at-most true true true true true true h = omega arith
-at-most true true true true true false h = omega arith
-at-most true true true true false f h = omega arith
-at-most true true true false e f h = omega arith
-at-most true true false d e f h = omega arith
-at-most true false c d e f h = omega arith
-at-most false b c d e f h = omega arith
+-- the first failing check is one of those listed
+first-below : (i : ℕ) (checks : List Bool) → 1 ≤ i → firstFailing i checks < i + length checks
+first-below i [] h = omega arith
+first-below i (true ∷ checks) h = omega (arith, first-below (suc i) checks (omega arith))
+first-below i (false ∷ checks) h = omega arith
 
 -- a refusal has length 0
 refusal-length : (r : Answer) → (numberOf r ≡ 0 → ⊥) → lengthOf r ≡ 0
@@ -151,6 +147,4 @@ opening-answers key nonce ad s t out r after p =
         (leb (length s - t) (length out)) (length s - t)
 
     not7 : numberOf (asAnswer checks) ≡ 7 → ⊥
-    not7 h =
-        at-most key-in (from-to 1 14 (length nonce)) (from-to 4 16 t) (leb (length ad) 4096) (from-to t (16384 + t) (length s))
-        (leb (length s - t) (length out)) (sym number ∙ h)
+    not7 h = omega (arith, first-below 1 (openChecks key nonce ad s t out) (omega arith), number)

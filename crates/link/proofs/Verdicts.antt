@@ -21,6 +21,15 @@ checked : {P : Type 0} {n : ℕ} {c : Check} (b : Bool) (r : Answer) → (number
 checked true r z f = f refl
 checked false r z f = stops r z refl
 
+-- checks c with nothing after them, and d with next after them: both pass on, or both stop at the same refusal
+data Guard (next c d : Check) : Type 0 where
+  lets-by : c ≡ pass 0 → d ≡ next → Guard next c d
+  holds : (r : Answer) → (numberOf r ≡ 0 → ⊥) → c ≡ stop r → d ≡ stop r → Guard next c d
+
+guarded : {next c d : Check} (b : Bool) (r : Answer) → (numberOf r ≡ 0 → ⊥) → Guard next c d → Guard next (unless b r c) (unless b r d)
+guarded true r z g = g
+guarded false r z g = holds r z refl refl
+
 -- both halves of a range test
 and-true : (a b : Bool) → (a && b) ≡ true → (a ≡ true) × (b ≡ true)
 and-true true b h = (refl, h)
@@ -49,10 +58,10 @@ module _ (key nonce t ad : ℕ) where
       checked (leb ad 4096) Data (λ z. omega arith) λ a.
       f (record { known = k; nonces = within 1 14 nonce s; tags = within 4 16 t g; data-most = leb-true ad 4096 a })
 
-  pub call-verdict : Verdict (Called key nonce t ad) 0 (callCheck key nonce t ad (pass 0))
+  call-verdict : Verdict (Called key nonce t ad) 0 (callCheck key nonce t ad (pass 0))
   call-verdict = after (Called key nonce t ad) 0 (pass 0) (λ h. passes h refl)
 
-  pub call-passed : numberOf (asAnswer (callCheck key nonce t ad (pass 0))) ≡ 0 → Called key nonce t ad
+  call-passed : numberOf (asAnswer (callCheck key nonce t ad (pass 0))) ≡ 0 → Called key nonce t ad
   call-passed h = go call-verdict
     where
       go : Verdict (Called key nonce t ad) 0 (callCheck key nonce t ad (pass 0)) → Called key nonce t ad
@@ -78,28 +87,31 @@ module _ (key nonce t ad : ℕ) where
       checked (leb (s - t) o) Room (λ z. omega arith) λ r.
       passes (h, within t (16384 + t) s l .0, within t (16384 + t) s l .1, leb-true (s - t) o r) refl
 
-  -- ---- checks 1 to 4 pass, or stop, whatever comes after them
-  pub goes-on : (next : Check) → numberOf (asAnswer (callCheck key nonce t ad (pass 0))) ≡ 0 → callCheck key nonce t ad next ≡ next
+  -- ---- checks 1 to 4 alone, as the code runs them: their answer, and its number
+  guard : (next : Check) → Guard next (callCheck key nonce t ad (pass 0)) (callCheck key nonce t ad next)
   unfolding callCheck
-  goes-on next = go (eqb key 16 || (eqb key 24 || eqb key 32)) (from-to 1 14 nonce) (from-to 4 16 t) (leb ad 4096)
-    where
-      go : (p q r s : Bool) → numberOf (asAnswer (unless p Key (unless q Nonce (unless r Tag (unless s Data (pass 0)))))) ≡ 0
-          → unless p Key (unless q Nonce (unless r Tag (unless s Data next))) ≡ next
-      go true true true true h = refl
-      go true true true false h = absurd (omega arith)
-      go true true false s h = absurd (omega arith)
-      go true false r s h = absurd (omega arith)
-      go false q r s h = absurd (omega arith)
+  guard next =
+      guarded (eqb key 16 || (eqb key 24 || eqb key 32)) Key (λ z. omega arith)
+      (guarded (from-to 1 14 nonce) Nonce (λ z. omega arith)
+      (guarded (from-to 4 16 t) Tag (λ z. omega arith)
+      (guarded (leb ad 4096) Data (λ z. omega arith) (lets-by refl refl))))
 
-  pub stops-here : (next : Check) → (numberOf (asAnswer (callCheck key nonce t ad (pass 0))) ≡ 0 → ⊥)
-      → callCheck key nonce t ad next ≡ callCheck key nonce t ad (pass 0)
-  unfolding callCheck
-  stops-here next = go (eqb key 16 || (eqb key 24 || eqb key 32)) (from-to 1 14 nonce) (from-to 4 16 t) (leb ad 4096)
-    where
-      go : (p q r s : Bool) → (numberOf (asAnswer (unless p Key (unless q Nonce (unless r Tag (unless s Data (pass 0)))))) ≡ 0 → ⊥)
-          → unless p Key (unless q Nonce (unless r Tag (unless s Data next))) ≡ unless p Key (unless q Nonce (unless r Tag (unless s Data (pass 0))))
-      go true true true true h = absurd (h refl)
-      go true true true false h = refl
-      go true true false s h = refl
-      go true false r s h = refl
-      go false q r s h = refl
+  module _ (r : Answer) (is : r ≡ asAnswer (callCheck key nonce t ad (pass 0))) (n : ℕ) (number : n ≡ numberOf r) where
+    -- done: the lengths are within their limits, and what comes after them decides
+    pub called : n ≡ 0 → Called key nonce t ad
+    called z = call-passed (sym (ap numberOf is) ∙ sym number ∙ z)
+
+    pub goes-on : n ≡ 0 → (next : Check) → callCheck key nonce t ad next ≡ next
+    goes-on z next = go (guard next)
+      where
+        go : Guard next (callCheck key nonce t ad (pass 0)) (callCheck key nonce t ad next) → callCheck key nonce t ad next ≡ next
+        go (lets-by e f) = f
+        go (holds x y e f) = absurd (y (sym (ap (λ (c : Check). numberOf (asAnswer c)) e) ∙ sym (ap numberOf is) ∙ sym number ∙ z))
+
+    -- a refusal: the answer, whatever comes after them
+    pub stops-here : (n ≡ 0 → ⊥) → (next : Check) → r ≡ asAnswer (callCheck key nonce t ad next)
+    stops-here z next = go (guard next)
+      where
+        go : Guard next (callCheck key nonce t ad (pass 0)) (callCheck key nonce t ad next) → r ≡ asAnswer (callCheck key nonce t ad next)
+        go (lets-by e f) = absurd (z (number ∙ ap numberOf (is ∙ ap asAnswer e)))
+        go (holds x y e f) = is ∙ ap asAnswer (e ∙ sym f)

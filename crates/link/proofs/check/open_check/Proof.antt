@@ -8,7 +8,7 @@ use borrow.Author.Tests.{le-leb, lt-leb, not-true, not-false}
 use Rattle.link.specs.Answers.{numberOf}
 use Rattle.link.specs.Checks.{Check, pass, from-to, unless, callCheck, openCheck, asAnswer}
 use Rattle.link.specs.declared.answer.Answer.the-variants.{Length, Room}
-use Rattle.link.proofs.Verdicts.{Called, within, call-passed, goes-on, stops-here}
+use Rattle.link.proofs.Verdicts.{within, called, goes-on, stops-here}
 use borrow.Author.Needs.{needs}
 use Rattle.link.proofs.check.open_check.Statement.{statement}
 use Rattle.link.proofs.check.open_check.Tie as tie
@@ -19,20 +19,17 @@ next c =
     let v = c .args in
     unless (from-to (v .tag) (16384 + v .tag) (v .sealed)) Length (unless (leb (v .sealed - v .tag) (v .room)) Room (pass (v .sealed - v .tag)))
 
+abbrev checks : tie.Start → Check
+checks c =
+    let v = c .args in
+    openCheck (v .key) (v .nonce) (v .tag) (v .ad) (v .sealed) (v .room)
+
 -- they have passed
-passed : (c : tie.Else1) → numberOf (asAnswer (callCheck (c .before .before .before .args .key) (c .before .before .before .args .nonce) (c .before .before .before .args .tag) (c .before .before .before .args .ad) (pass 0))) ≡ 0
-passed c = sym (ap numberOf (c .before .before .call-check .ensures)) ∙ sym (c .before .number .ensures) ∙ c .if1 .left
-
-called : (c : tie.Else1) → Called (c .before .before .before .args .key) (c .before .before .before .args .nonce) (c .before .before .before .args .tag) (c .before .before .before .args .ad)
-called c =
-    let v = c .before .before .before .args in
-    call-passed (v .key) (v .nonce) (v .tag) (v .ad) (passed c)
-
-next-is : (c : tie.Else1) → openCheck (c .before .before .before .args .key) (c .before .before .before .args .nonce) (c .before .before .before .args .tag) (c .before .before .before .args .ad) (c .before .before .before .args .sealed) (c .before .before .before .args .room) ≡ next (c .before .before .before)
+next-is : (c : tie.Else1) → checks (c .before .before .before) ≡ next (c .before .before .before)
 unfolding openCheck
 next-is c =
-    let v = c .before .before .before .args in
-    goes-on (v .key) (v .nonce) (v .tag) (v .ad) (next (c .before .before .before)) (passed c)
+    let at-check = c .before .before in
+    goes-on _ _ _ _ _ (at-check .call-check .ensures) _ (c .before .number .ensures) (c .if1 .left) (next (at-check .before))
 
 range-is : (c : tie.Else2) → from-to (c .before .before .before .before .before .args .tag) (16384 + c .before .before .before .before .before .args .tag) (c .before .before .before .before .before .args .sealed) ≡ true
 range-is c = sym (c .before .from-to .ensures) ∙ not-false (c .before .from-to .result) (c .if2 .left)
@@ -45,12 +42,12 @@ in-range c =
 returns : tie.Need-returns
 unfolding openCheck
 returns c =
-    let v = c .before .before .before .args in
-    let r = c .before .before .call-check .ensures in
-    r ∙ sym (ap asAnswer (stops-here (v .key) (v .nonce) (v .tag) (v .ad) (next (c .before .before .before)) (λ z. c .if1 .taken (c .before .number .ensures ∙ ap numberOf r ∙ z))))
+    let at-check = c .before .before in
+    stops-here _ _ _ _ _ (at-check .call-check .ensures) _ (c .before .number .ensures) (c .if1 .taken) (next (at-check .before))
 
 add-from-to : tie.Need-add-from-to
-add-from-to c = omega (arith, called c)
+add-from-to c =
+    omega (arith, called _ _ _ _ _ (c .before .before .call-check .ensures) _ (c .before .number .ensures) (c .if1 .left))
 
 returns-2 : tie.Need-returns-2
 returns-2 c =

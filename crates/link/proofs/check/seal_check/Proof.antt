@@ -8,7 +8,7 @@ use borrow.Author.Tests.{le-leb, lt-leb, not-true, not-false}
 use Rattle.link.specs.Answers.{numberOf}
 use Rattle.link.specs.Checks.{Check, pass, from-to, unless, callCheck, sealCheck, asAnswer}
 use Rattle.link.specs.declared.answer.Answer.the-variants.{Length, Room}
-use Rattle.link.proofs.Verdicts.{Called, within, call-passed, goes-on, stops-here}
+use Rattle.link.proofs.Verdicts.{called, goes-on, stops-here}
 use borrow.Author.Needs.{needs}
 use Rattle.link.proofs.check.seal_check.Statement.{statement}
 use Rattle.link.proofs.check.seal_check.Tie as tie
@@ -19,27 +19,23 @@ next c =
     let v = c .args in
     unless (leb (v .message) 16384) Length (unless (leb (v .message + v .tag) (v .room)) Room (pass (v .message + v .tag)))
 
+abbrev checks : tie.Start → Check
+checks c =
+    let v = c .args in
+    sealCheck (v .key) (v .nonce) (v .tag) (v .ad) (v .message) (v .room)
+
 -- they have passed
-passed : (c : tie.Else1) → numberOf (asAnswer (callCheck (c .before .before .before .args .key) (c .before .before .before .args .nonce) (c .before .before .before .args .tag) (c .before .before .before .args .ad) (pass 0))) ≡ 0
-passed c = sym (ap numberOf (c .before .before .call-check .ensures)) ∙ sym (c .before .number .ensures) ∙ c .if1 .left
-
-called : (c : tie.Else1) → Called (c .before .before .before .args .key) (c .before .before .before .args .nonce) (c .before .before .before .args .tag) (c .before .before .before .args .ad)
-called c =
-    let v = c .before .before .before .args in
-    call-passed (v .key) (v .nonce) (v .tag) (v .ad) (passed c)
-
-next-is : (c : tie.Else1) → sealCheck (c .before .before .before .args .key) (c .before .before .before .args .nonce) (c .before .before .before .args .tag) (c .before .before .before .args .ad) (c .before .before .before .args .message) (c .before .before .before .args .room) ≡ next (c .before .before .before)
+next-is : (c : tie.Else1) → checks (c .before .before .before) ≡ next (c .before .before .before)
 unfolding sealCheck
 next-is c =
-    let v = c .before .before .before .args in
-    goes-on (v .key) (v .nonce) (v .tag) (v .ad) (next (c .before .before .before)) (passed c)
+    let at-check = c .before .before in
+    goes-on _ _ _ _ _ (at-check .call-check .ensures) _ (c .before .number .ensures) (c .if1 .left) (next (at-check .before))
 
 returns : tie.Need-returns
 unfolding sealCheck
 returns c =
-    let v = c .before .before .before .args in
-    let r = c .before .before .call-check .ensures in
-    r ∙ sym (ap asAnswer (stops-here (v .key) (v .nonce) (v .tag) (v .ad) (next (c .before .before .before)) (λ z. c .if1 .taken (c .before .number .ensures ∙ ap numberOf r ∙ z))))
+    let at-check = c .before .before in
+    stops-here _ _ _ _ _ (at-check .call-check .ensures) _ (c .before .number .ensures) (c .if1 .taken) (next (at-check .before))
 
 returns-2 : tie.Need-returns-2
 returns-2 c =
@@ -47,7 +43,9 @@ returns-2 c =
     sym (ap asAnswer (next-is (c .before)) ∙ rw (lt-leb (v .message) 16384 (c .if2 .taken)))
 
 add-if3 : tie.Need-add-if3
-add-if3 c = omega (arith, called (c .before))
+add-if3 c =
+    let e = c .before in
+    omega (arith, called _ _ _ _ _ (e .before .before .call-check .ensures) _ (e .before .number .ensures) (e .if1 .left))
 
 returns-3 : tie.Need-returns-3
 returns-3 c =
