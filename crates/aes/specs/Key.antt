@@ -6,7 +6,7 @@ use lib.Dec.{eqb}
 use lib.ListN.{length}
 use Rattle.lists.specs.Lay.{lay}
 use Rattle.lists.specs.Zeros.{zeros}
-use Rattle.aes.specs.Expansion.{keyRounds, keyExpansion, aes}
+use Rattle.aes.specs.Expansion.{keyExpansion, aes}
 use Rattle.aes.specs.declared.key.KeySize.{KeySize}
 use Rattle.aes.specs.declared.key.KeySize.the-variants.{Known, Refused}
 use Rattle.aes.specs.declared.key.RoundKeys.{RoundKeys}

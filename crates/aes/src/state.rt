@@ -1,6 +1,5 @@
 // The steps of a round, each on the state by value: four columns of four bytes (FIPS 197, sections 3.4 and 5.1).
 ghost use mathlib.Core.Path.{_≡_};
-ghost use mathlib.Core.List.{[], _∷_};
 ghost use Prim.Native.Nat.{_+_, _*_, _%_, _≤_, _<_};
 ghost use lib.Bits.{bitXor};
 ghost use lib.ListN.{getD};

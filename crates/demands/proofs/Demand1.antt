@@ -11,11 +11,10 @@ use lib.Dec.{eqb, leb}
 use lib.ListN.{length}
 use Rattle.lists.specs.Lay.{lay}
 use Rattle.lists.specs.Zeros.{zeros}
-use Rattle.mode.specs.Opening.{Opened, accepted, refused, Allowed}
-use Rattle.passes.specs.Shown.{shown}
+use Rattle.mode.specs.Opening.{accepted, refused}
 use Rattle.link.specs.Answers.{numberOf, lengthOf}
 use Rattle.link.specs.Checks.{Check, pass, stop, from-to, unless, callCheck, sealCheck, openCheck, asAnswer}
-use Rattle.link.specs.Promises.{sealing, SealsBy, Seals, openedAs, OpensBy, Opens}
+use Rattle.link.specs.Promises.{sealing, SealsBy, Seals, OpensBy, Opens}
 use Rattle.link.specs.declared.answer.Answer.{Answer}
 use Rattle.link.specs.declared.answer.Answer.the-variants.{Done, Key, Nonce, Tag, Data, Length, Room, Forged}
 use Rattle.link.proofs.Verdicts.{Verdict, passes, stops, Called, open-verdict}

@@ -1,6 +1,6 @@
 -- Demand 2: everything within the stated limits is sealed, given room, and the bytes are exactly AES-OTR v3.1 with parallel
 -- associated data over the AES of FIPS 197; opening what was sealed gives the message back. Assumes nothing.
-use mathlib.Core.Path.{_≡_, refl, sym, ap, subst, _∙_}
+use mathlib.Core.Path.{_≡_, refl, ap, subst, _∙_}
 use mathlib.Core.List.{List}
 use Prim.Native.Nat.{ℕ, _+_, _-_, _≤_}
 use native.Mathlib.Omega.{arith}
@@ -8,10 +8,10 @@ use lib.ListN.{length}
 use Rattle.lists.specs.Lay.{lay}
 use Rattle.aes.specs.Expansion.{aes}
 use Rattle.mode.specs.Sealing.{otr}
-use Rattle.mode.specs.Opening.{Opened, accepted, refused, Allowed}
+use Rattle.mode.specs.Opening.{accepted, refused}
 use Rattle.mode.proofs.Third.{length-otr, otr-injective}
-use Rattle.link.specs.Checks.{Check, pass, sealCheck, openCheck}
-use Rattle.link.specs.Promises.{SealsBy, Seals, openedAs, OpensBy, Opens}
+use Rattle.link.specs.Checks.{Check, pass, openCheck}
+use Rattle.link.specs.Promises.{SealsBy, Seals, OpensBy, Opens}
 use Rattle.link.specs.declared.answer.Answer.{Answer}
 use Rattle.link.specs.declared.answer.Answer.the-variants.{Done}
 use Rattle.link.proofs.Entries.{aes-cipher}

@@ -1,7 +1,7 @@
 -- Demand 3: for inputs that pass checks 1 to 6, opening answers 7 exactly if no message at all, sealed under the same key, nonce,
 -- associated data and tag length, gives those bytes. When it accepts, it returns the one message that does. This holds for any
 -- fixed rule from blocks to blocks put in the cipher's place. Assumes nothing.
-use mathlib.Core.Path.{_≡_, refl, sym, ap, subst, _∙_}
+use mathlib.Core.Path.{_≡_, sym, ap, subst, _∙_}
 use mathlib.Core.Logic.{_↔_}
 use mathlib.Core.List.{List}
 use Prim.Native.Nat.{ℕ, _+_, _-_, _≤_}
@@ -11,12 +11,11 @@ use Rattle.lists.specs.Lay.{lay}
 use Rattle.aes.specs.Expansion.{aes}
 use Rattle.mode.specs.Masks.{IsCipher}
 use Rattle.mode.specs.Sealing.{otr}
-use Rattle.mode.specs.Opening.{Opened, accepted, refused, Allowed}
+use Rattle.mode.specs.Opening.{accepted, refused}
 use Rattle.mode.proofs.Third.{length-otr, otr-injective}
-use Rattle.passes.specs.Shown.{shown}
 use Rattle.link.specs.Answers.{numberOf, lengthOf}
 use Rattle.link.specs.Checks.{Check, pass}
-use Rattle.link.specs.Promises.{openedAs, OpensBy, Opens}
+use Rattle.link.specs.Promises.{OpensBy, Opens}
 use Rattle.link.specs.declared.answer.Answer.{Answer}
 use Rattle.link.proofs.Entries.{aes-cipher}
 use Rattle.demands.specs.Calls.{Limits}

@@ -1,10 +1,10 @@
 -- Within the limits every check passes. Assumes nothing.
-use mathlib.Core.Path.{_≡_, refl, sym, ap, ap₂, _∙_}
-use mathlib.Core.Bool.{Bool, true, false, _&&_, _||_}
+use mathlib.Core.Path.{_≡_, ap₂, _∙_}
+use mathlib.Core.Bool.{true, _&&_, _||_}
 use mathlib.Core.Logic.{_⊎_, inl, inr}
 use Prim.Native.Nat.{ℕ, _+_, _-_, _≤_}
 use lib.Dec.{eqb, leb}
-use borrow.Author.Tests.{le-leb, eq-eqb}
+use borrow.Author.Tests.{le-leb}
 use Rattle.link.specs.Checks.{Check, pass, from-to, unless, callCheck, sealCheck, openCheck}
 use Rattle.link.specs.declared.answer.Answer.the-variants.{Length, Room}
 use Rattle.demands.specs.Calls.{Limits}

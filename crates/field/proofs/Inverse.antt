@@ -1,7 +1,7 @@
 -- The inverse is one, at every byte but 0, and 0 goes to 0: one computed equation. Assumes nothing.
 use mathlib.Core.Path.{_≡_, refl}
 use Prim.Native.Nat.{ℕ, zero, suc, _<_}
-use Rattle.lists.specs.Table.{table, tableFrom}
+use Rattle.lists.specs.Table.{tableFrom}
 use Rattle.lists.proofs.Table.{agree}
 use Rattle.field.specs.Field.{product, inverse}
 

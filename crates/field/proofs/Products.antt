@@ -2,7 +2,7 @@
 use mathlib.Core.Path.{_≡_, refl}
 use Prim.Native.Nat.{ℕ, _+_, _*_, _<_}
 use lib.Bits.{bitXor}
-use Rattle.lists.specs.Table.{table, tableFrom}
+use Rattle.lists.specs.Table.{tableFrom}
 use Rattle.lists.proofs.Table.{agree}
 use Rattle.field.specs.Field.{product}
 

@@ -9,7 +9,7 @@ use borrow.Author.Tests.{leb-true}
 use Rattle.link.specs.Answers.{numberOf}
 use Rattle.link.specs.Checks.{Check, pass, stop, from-to, unless, callCheck, sealCheck, openCheck, asAnswer}
 use Rattle.link.specs.declared.answer.Answer.{Answer}
-use Rattle.link.specs.declared.answer.Answer.the-variants.{Done, Key, Nonce, Tag, Data, Length, Room}
+use Rattle.link.specs.declared.answer.Answer.the-variants.{Key, Nonce, Tag, Data, Length, Room}
 
 -- the checks c come to n bytes with P known, or stop at a refusal
 pub data Verdict (P : Type 0) (n : ℕ) (c : Check) : Type 0 where

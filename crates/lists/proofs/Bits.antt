@@ -1,7 +1,6 @@
 -- XOR of two numbers, beyond the kit's laws: associativity. Assumes nothing.
 use mathlib.Core.Path.{_≡_, refl, sym, ap, ap₂, _∙_}
 use Prim.Native.Nat.{ℕ, zero, suc, _+_, _*_, _/_, _%_, _<_}
-use native.Mathlib.Nat.{mod-lt}
 use native.Mathlib.Omega.{arith}
 use lib.Arith.{bin-ind}
 use lib.Bits.{bitOr, bitXor, differ, and-le-l, and-le-r, or-add-and, xor-step, xor-self, xor-zero-l, xor-zero-r}

@@ -5,7 +5,7 @@ use Prim.Native.Nat.{ℕ, zero, suc, _+_, _≤_, _<_, min}
 use native.Mathlib.Nat.{le-of-suc-le-suc, not-suc-le-zero, zero-min, min-zero, suc-min-suc}
 use native.Mathlib.Omega.{arith}
 use lib.Bits.{bitXor, xor-comm as bits-comm}
-use lib.ListN.{length, getD, take, drop}
+use lib.ListN.{length, getD, take}
 use Rattle.lists.specs.Xor.{xor}
 use Rattle.lists.specs.Table.{table}
 use Rattle.lists.proofs.Table.{as-table}

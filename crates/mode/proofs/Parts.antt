@@ -1,12 +1,12 @@
 -- The message pass in the parts that code computes it in, by whether one block or two remain: the ciphertext, and TE of a message
 -- and of one that was undone. Assumes nothing.
-use mathlib.Core.Path.{_≡_, refl, sym, ap, ap₂, subst, _∙_}
-use mathlib.Core.Bool.{Bool, true, false}
+use mathlib.Core.Path.{_≡_, refl, ap, ap₂, subst, _∙_}
+use mathlib.Core.Bool.{Bool}
 use mathlib.Core.List.{List, _++_}
 use Prim.Native.Nat.{ℕ, zero, suc, _+_, _-_, _*_, _≤_}
 use native.Mathlib.Omega.{arith}
 use lib.Dec.{ltb}
-use lib.ListN.{length, take, drop, length-append, length-drop}
+use lib.ListN.{length, take, drop, length-drop}
 use lib.Seq.{take-append-le, drop-append-le, drop-at}
 use Rattle.lists.specs.Xor.{xor}
 use Rattle.mode.specs.Masks.{Masks, IsCipher, AreMasks}

@@ -1,8 +1,8 @@
 -- AES-OTR v3.1 with parallel data, over any cipher: its masks are masks, its TA has 16 bytes, and so every theorem of the mode holds
 -- for it. Assumes nothing.
-use mathlib.Core.Path.{_≡_, refl, ap, _∙_}
+use mathlib.Core.Path.{_≡_, refl, ap}
 use mathlib.Core.Bool.{Bool, true, false}
-use mathlib.Core.List.{List, [], _∷_, _++_}
+use mathlib.Core.List.{List, [], _∷_}
 use Prim.Native.Nat.{ℕ, zero, suc, _+_, _-_, _*_, _/_, _≤_}
 use native.Mathlib.Omega.{arith}
 use lib.Dec.{ltb}
@@ -10,7 +10,7 @@ use lib.ListN.{length, drop, length-append, length-drop}
 use Rattle.lists.specs.Xor.{xor}
 use Rattle.lists.specs.Zeros.{zeros}
 use Rattle.lists.proofs.Zeros.{length-zeros}
-use Rattle.block.specs.Block.{pad, triple, tripleTwice}
+use Rattle.block.specs.Block.{pad, triple}
 use Rattle.block.proofs.Blocks.{length-pad}
 use Rattle.block.proofs.Doubling.{length-double, length-triple, length-seven}
 use Rattle.mode.specs.Masks.{Masks, IsCipher, AreMasks, doubles, doubled, third}

@@ -1,7 +1,7 @@
 -- AES-OTR v3.1 with AES in the cipher's place, computed and held to what the second program gives. Each row is computed by itself,
 -- since both pass what antt computes in one declaration; `rows` is the one claim. Assumes nothing.
 use mathlib.Core.Path.{_≡_, refl, ap₂}
-use mathlib.Core.List.{List, [], _∷_, map}
+use mathlib.Core.List.{List, _∷_, map}
 use Prim.Native.Nat.{ℕ, _+_, _*_, _%_}
 use lib.ListN.{getD}
 use Rattle.lists.specs.Hex.{bytes}

@@ -1,6 +1,6 @@
 -- `field::twice` meets its contract: its two ways are the closed form of the product by 2. Assumes nothing.
 use mathlib.Core.Path.{_∙_, ap}
-use Prim.Native.Nat.{_+_, _-_}
+use Prim.Native.Nat.{_-_}
 use borrow.Author.Needs.{needs}
 use native.Mathlib.Omega.{arith}
 use Rattle.field.specs.Field.{product}

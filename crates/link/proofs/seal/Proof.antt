@@ -2,13 +2,11 @@
 use mathlib.Core.Path.{_≡_, sym, ap, subst, _∙_}
 use mathlib.Core.List.{List}
 use Prim.Native.Nat.{ℕ, _+_, _≤_}
-use native.Mathlib.Omega.{arith}
 use lib.ListN.{length}
 use Rattle.lists.specs.Lay.{lay}
 use Rattle.mode.specs.Sealing.{otr}
 use Rattle.link.specs.Checks.{Check, pass, sealCheck, asAnswer}
 use Rattle.link.specs.Promises.{sealing, SealsBy, Seals}
-use Rattle.link.specs.declared.answer.Answer.{Answer}
 use Rattle.link.proofs.Verdicts.{Called, seal-verdict}
 use Rattle.link.proofs.Entries.{seal-stopped, went-on, keyed, rounds-in, cipher-is}
 use borrow.Author.Needs.{needs}

@@ -1,14 +1,13 @@
 -- `aes::key::encrypt_under` meets its contract: the cipher under the round keys is the cipher under the key. Assumes nothing.
-use mathlib.Core.Path.{_≡_, sym, ap, _∙_}
-use mathlib.Core.Bool.{true, false}
+use mathlib.Core.Path.{sym, ap, _∙_}
+use mathlib.Core.Bool.{true}
 use mathlib.Core.List.{List}
 use Prim.Native.Nat.{ℕ}
 use native.Mathlib.Omega.{arith}
 use borrow.Author.Needs.{needs}
 use Rattle.lists.specs.Zeros.{zeros}
 use Rattle.aes.specs.Cipher.{cipher}
-use Rattle.aes.specs.Key.{expanded, cipheredAs, cipheredOf}
-use Rattle.aes.specs.declared.key.Ciphered.{Ciphered}
+use Rattle.aes.specs.Key.{cipheredAs, cipheredOf}
 use Rattle.aes.specs.declared.key.RoundKeys.{RoundKeys}
 use Rattle.aes.proofs.Keys.{Usable, refused, accepted}
 use Rattle.aes.proofs.key.encrypt_under.Statement.{statement}

@@ -1,5 +1,5 @@
 -- `aes::key::expand` meets its contract. Assumes nothing.
-use mathlib.Core.Path.{_≡_, sym, ap, ap₂, _∙_}
+use mathlib.Core.Path.{_≡_, sym, ap, _∙_}
 use mathlib.Core.List.{List}
 use Prim.Native.Nat.{ℕ, _+_, _-_, _*_, _/_}
 use native.Mathlib.Omega.{arith}
@@ -9,8 +9,7 @@ use Rattle.lists.specs.Lay.{lay}
 use Rattle.lists.specs.Zeros.{zeros}
 use Rattle.aes.specs.Expansion.{words, keyExpansion}
 use Rattle.aes.specs.Key.{sizeOf, expandedAs, expanded}
-use Rattle.aes.specs.declared.key.KeySize.the-variants.{Known, Refused}
-use Rattle.aes.specs.declared.key.RoundKeys.{RoundKeys}
+use Rattle.aes.specs.declared.key.KeySize.the-variants.{Known}
 use Rattle.aes.proofs.Sizes.{Sizes, sizes}
 use Rattle.aes.proofs.key.expand.Statement.{statement}
 use Rattle.aes.proofs.key.expand.Tie as tie

@@ -1,5 +1,5 @@
 -- `aes::key::key_size` meets its contract, length by length. Assumes nothing.
-use mathlib.Core.Path.{sym, ap, _∙_}
+use mathlib.Core.Path.{sym}
 use borrow.Author.Tests.{ne-eqb}
 use Rattle.aes.specs.Key.{sizeOf}
 use Rattle.aes.proofs.key.key_size.Statement.{statement}

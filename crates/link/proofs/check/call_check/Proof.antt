@@ -1,7 +1,7 @@
 -- `link::check::call_check` meets its contract, check by check. Assumes nothing.
 use mathlib.Core.Path.{_≡_, sym, _∙_}
-use mathlib.Core.Bool.{Bool, true, false, _||_}
-use lib.Dec.{eqb, leb}
+use mathlib.Core.Bool.{true, _||_}
+use lib.Dec.{eqb}
 use borrow.Author.Tests.{le-leb, lt-leb, not-true, not-false}
 use Rattle.link.specs.Checks.{from-to, callCheck}
 use Rattle.link.proofs.Known.{known-size, unknown-size}

@@ -1,9 +1,8 @@
 -- `link::check::from_to` meets its contract. Assumes nothing.
-use mathlib.Core.Path.{sym, ap, ap₂, _∙_}
+use mathlib.Core.Path.{sym, ap}
 use mathlib.Core.Bool.{Bool, _&&_}
 use lib.Dec.{leb}
 use borrow.Author.Tests.{le-leb, lt-leb}
-use borrow.Author.Needs.{needs}
 use Rattle.link.proofs.check.from_to.Statement.{statement}
 use Rattle.link.proofs.check.from_to.Tie as tie
 

@@ -1,5 +1,5 @@
 -- `passes::data::data_mask` meets its contract. Assumes nothing.
-use mathlib.Core.Path.{_≡_, sym, ap, _∙_}
+use mathlib.Core.Path.{sym, ap, _∙_}
 use borrow.Author.Tests.{lt-ltb, le-ltb}
 use Rattle.mode.specs.Data.{dataFinal}
 use borrow.Author.Needs.{needs}

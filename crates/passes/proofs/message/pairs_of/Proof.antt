@@ -1,5 +1,5 @@
 -- `passes::message::pairs_of` meets its contract. Assumes nothing.
-use mathlib.Core.Path.{sym, _∙_}
+use mathlib.Core.Path.{sym}
 use native.Mathlib.Omega.{arith}
 use Rattle.mode.proofs.Counts.{pairs-are}
 use borrow.Author.Needs.{needs}

@@ -7,7 +7,6 @@ use lib.Dec.{eqb}
 use lib.ListN.{length, getD, take, drop, length-drop}
 use lib.Seq.{getD-drop, take-all}
 use borrow.Author.Tests.{eqb-true, eq-eqb}
-use Rattle.lists.specs.Same.{same}
 use Rattle.lists.proofs.Bits.{xor-zero, or-zero-left, or-zero-right}
 use Rattle.lists.proofs.Same.{same-is, take-more, take-less, last-same}
 use borrow.Author.Needs.{needs}
