@@ -42,11 +42,8 @@ key = bytes 16 0
 abbrev pub nonce : List ℕ
 nonce = bytes 12 0
 
-abbrev pub m0 : List ℕ
-m0 = 0 ∷ []
-
-abbrev pub m1 : List ℕ
-m1 = 1 ∷ []
+abbrev pub one : ℕ → List ℕ
+one x = x ∷ []
 
 -- buffers of 17 zeros, and of one
 abbrev pub room : List ℕ
@@ -58,67 +55,50 @@ small = 0 ∷ []
 limits : Limits 16 12 16 0
 limits = record { keys = inl refl; nonces = (omega arith, omega arith); tags = (omega arith, omega arith); most = omega arith }
 
--- the sealed strings of the two messages
-pub s0 : List ℕ
-s0 = otr (aes key) nonce [] 16 m0
+-- what the message of one byte x seals to
+pub s : ℕ → List ℕ
+s x = otr (aes key) nonce [] 16 (one x)
 
-pub s1 : List ℕ
-s1 = otr (aes key) nonce [] 16 m1
-
-differ : m0 ≡ m1 → ⊥
+differ : one 0 ≡ one 1 → ⊥
 differ e =
     let z : _≡_ {A = ℕ} 0 1 = ap (λ (l : List ℕ). getD l 0 0) e in
     omega arith
 
-injective : s0 ≡ s1 → ⊥
-unfolding s0 s1
-injective e = differ (otr-injective (aes key) (aes-cipher key) nonce [] 16 (omega arith) (omega arith) m0 m1 e)
+injective : s 0 ≡ s 1 → ⊥
+unfolding s
+injective e = differ (otr-injective (aes key) (aes-cipher key) nonce [] 16 (omega arith) (omega arith) (one 0) (one 1) e)
 
-long : (x : ℕ) → length (otr (aes key) nonce [] 16 (x ∷ [])) ≡ 17
-long x = length-otr (aes key) (aes-cipher key) nonce [] 16 (omega arith) (omega arith) (x ∷ [])
+-- a buffer of 17 bytes is the sealed string afterwards, and one of one byte the message again
+sealed-one : (x : ℕ) (r : Answer) (after : List ℕ) → Seals key nonce [] (one x) 16 room r after → (numberOf r ≡ 0) × (after ≡ s x)
+unfolding s
+sealed-one x r after p =
+    let q = is-sealed key nonce [] (one x) 16 limits (omega arith) room (omega arith) r after p in
+    let long : length (s x) ≡ 17 = length-otr (aes key) (aes-cipher key) nonce [] 16 (omega arith) (omega arith) (one x) in
+    (ap numberOf (q .0), q .1 ∙ lay-whole (s x) room (omega (arith, long)))
 
--- a buffer of 17 bytes is the sealed string afterwards
-seal-0 : (r : Answer) (after : List ℕ) → Seals key nonce [] m0 16 room r after → (numberOf r ≡ 0) × (after ≡ s0)
-unfolding s0
-seal-0 r after p =
-    let q = is-sealed key nonce [] m0 16 limits (omega arith) room (omega arith) r after p in
-    (ap numberOf (q .0), q .1 ∙ lay-whole (otr (aes key) nonce [] 16 m0) room (omega (arith, long 0)))
-
-seal-1 : (r : Answer) (after : List ℕ) → Seals key nonce [] m1 16 room r after → (numberOf r ≡ 0) × (after ≡ s1)
-unfolding s1
-seal-1 r after p =
-    let q = is-sealed key nonce [] m1 16 limits (omega arith) room (omega arith) r after p in
-    (ap numberOf (q .0), q .1 ∙ lay-whole (otr (aes key) nonce [] 16 m1) room (omega (arith, long 1)))
-
-open-0 : (r : Answer) (after : List ℕ) → Opens key nonce [] s0 16 small r after → (numberOf r ≡ 0) × (after ≡ m0)
-unfolding s0
-open-0 r after p =
-    let q = round-trip key nonce [] m0 16 limits (omega arith) small (omega arith) r after p in
-    (ap numberOf (q .0), q .1)
-
-open-1 : (r : Answer) (after : List ℕ) → Opens key nonce [] s1 16 small r after → (numberOf r ≡ 0) × (after ≡ m1)
-unfolding s1
-open-1 r after p =
-    let q = round-trip key nonce [] m1 16 limits (omega arith) small (omega arith) r after p in
+opened-one : (x : ℕ) (r : Answer) (after : List ℕ) → Opens key nonce [] (s x) 16 small r after → (numberOf r ≡ 0) × (after ≡ one x)
+unfolding s
+opened-one x r after p =
+    let q = round-trip key nonce [] (one x) 16 limits (omega arith) small (omega arith) r after p in
     (ap numberOf (q .0), q .1)
 
 -- ---- refuses everything
-pub refuses-sealing : (r : Answer) (after : List ℕ) → (numberOf r ≡ 0 → ⊥) → Seals key nonce [] m0 16 room r after → ⊥
-refuses-sealing r after z p = z (seal-0 r after p .0)
+pub refuses-sealing : (r : Answer) (after : List ℕ) → (numberOf r ≡ 0 → ⊥) → Seals key nonce [] (one 0) 16 room r after → ⊥
+refuses-sealing r after z p = z (sealed-one 0 r after p .0)
 
-pub refuses-opening : (r : Answer) (after : List ℕ) → (numberOf r ≡ 0 → ⊥) → Opens key nonce [] s0 16 small r after → ⊥
-refuses-opening r after z p = z (open-0 r after p .0)
+pub refuses-opening : (r : Answer) (after : List ℕ) → (numberOf r ≡ 0 → ⊥) → Opens key nonce [] (s 0) 16 small r after → ⊥
+refuses-opening r after z p = z (opened-one 0 r after p .0)
 
 -- ---- one fixed ciphertext, or message, for all: it cannot be right for both
-pub fixed-ciphertext : (r r′ : Answer) (after : List ℕ) → Seals key nonce [] m0 16 room r after → Seals key nonce [] m1 16 room r′ after → ⊥
-fixed-ciphertext r r′ after p q = injective (sym (seal-0 r after p .1) ∙ seal-1 r′ after q .1)
+pub fixed-ciphertext : (r r′ : Answer) (after : List ℕ) → Seals key nonce [] (one 0) 16 room r after → Seals key nonce [] (one 1) 16 room r′ after → ⊥
+fixed-ciphertext r r′ after p q = injective (sym (sealed-one 0 r after p .1) ∙ sealed-one 1 r′ after q .1)
 
-pub fixed-message : (r r′ : Answer) (after : List ℕ) → Opens key nonce [] s0 16 small r after → Opens key nonce [] s1 16 small r′ after → ⊥
-fixed-message r r′ after p q = differ (sym (open-0 r after p .1) ∙ open-1 r′ after q .1)
+pub fixed-message : (r r′ : Answer) (after : List ℕ) → Opens key nonce [] (s 0) 16 small r after → Opens key nonce [] (s 1) 16 small r′ after → ⊥
+fixed-message r r′ after p q = differ (sym (opened-one 0 r after p .1) ∙ opened-one 1 r′ after q .1)
 
 -- ---- opening accepts only empty messages: it answers 7 to a sealed byte
-pub only-empty : (r : Answer) (after : List ℕ) → numberOf r ≡ 7 → Opens key nonce [] s0 16 small r after → ⊥
-only-empty r after h p = let z = open-0 r after p .0 in omega arith
+pub only-empty : (r : Answer) (after : List ℕ) → numberOf r ≡ 7 → Opens key nonce [] (s 0) 16 small r after → ⊥
+only-empty r after h p = let z = opened-one 0 r after p .0 in omega arith
 
 -- ---- opening accepts any tag: an empty message has one tag, and not both of these
 empty : (m : List ℕ) → length m ≡ 0 → m ≡ []
@@ -196,19 +176,22 @@ unfolding u
 u-long = aes-cipher key (format 16 nonce) (length-format 16 nonce (omega arith))
 
 -- ---- copies the plaintext through, or is done and writes nothing: the first byte would still be 0
-first-byte : getD s0 0 0 ≡ 0xe0
-unfolding s0 u blocks pairsOf even doubles
+first-byte : getD (s 0) 0 0 ≡ 0xe0
+unfolding s u blocks pairsOf even doubles
 first-byte =
-    byte-behind (aes key) (aes-cipher key) u (ta (aes key) []) m0 u-long refl (omega arith)
+    byte-behind (aes key) (aes-cipher key) u (ta (aes key) []) (one 0) u-long refl (omega arith)
     ∙ ap (bitXor 0) first-mask
 
-pub copies-through : (r : Answer) (after : List ℕ) → getD after 0 0 ≡ 0 → Seals key nonce [] m0 16 room r after → ⊥
+pub copies-through : (r : Answer) (after : List ℕ) → getD after 0 0 ≡ 0 → Seals key nonce [] (one 0) 16 room r after → ⊥
 copies-through r after h p =
-    let z : getD after 0 0 ≡ 0xe0 = ap (λ (l : List ℕ). getD l 0 0) (seal-0 r after p .1) ∙ first-byte in
+    let z : getD after 0 0 ≡ 0xe0 = ap (λ (l : List ℕ). getD l 0 0) (sealed-one 0 r after p .1) ∙ first-byte in
     omega arith
 
-pub writes-nothing : (r : Answer) → Seals key nonce [] m0 16 room r room → ⊥
+pub writes-nothing : (r : Answer) → Seals key nonce [] (one 0) 16 room r room → ⊥
 writes-nothing r p = copies-through r room refl p
+
+pub writes-no-message : (r : Answer) → Opens key nonce [] (s 1) 16 small r small → ⊥
+writes-no-message r p = differ (opened-one 1 r small p .1)
 
 -- ---- seals the first pair and copies the rest: of 33 zeros the last byte would still be 0
 abbrev pub m33 : List ℕ
@@ -226,7 +209,7 @@ byte-32 =
 pub first-pair-alone : (r : Answer) (after : List ℕ) → getD after 32 0 ≡ 0 → Seals key nonce [] m33 16 room33 r after → ⊥
 first-pair-alone r after h p =
     let q = is-sealed key nonce [] m33 16 limits (omega arith) room33 (omega arith) r after p in
-    let s = otr (aes key) nonce [] 16 m33 in
-    let s-long : length s ≡ 49 = length-otr (aes key) (aes-cipher key) nonce [] 16 (omega arith) (omega arith) m33 in
-    let z : getD after 32 0 ≡ 0x3a = ap (λ (l : List ℕ). getD l 32 0) (q .1 ∙ lay-whole s room33 (omega arith)) ∙ byte-32 in
+    let x = otr (aes key) nonce [] 16 m33 in
+    let long : length x ≡ 49 = length-otr (aes key) (aes-cipher key) nonce [] 16 (omega arith) (omega arith) m33 in
+    let z : getD after 32 0 ≡ 0x3a = ap (λ (l : List ℕ). getD l 32 0) (q .1 ∙ lay-whole x room33 (omega arith)) ∙ byte-32 in
     omega arith
