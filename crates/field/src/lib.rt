@@ -276,8 +276,8 @@ pub fn substitute_byte(table: &[u8; 256], b: u8) -> u8
     table[b as usize]
 }
 
-// FIPS 197, 4.2.1, with no branch on the byte: 2 · b, less m(x) where that has an x⁸. The x⁸ is multiplied at its own place and the
-// product moved down, as a compiler takes a bit of 0 or 1, multiplied, for a choice again.
+// FIPS 197, 4.2.1, with no branch on the byte: 2 · b, less m(x) where that has an x⁸. The x⁸ is multiplied at its own place, and
+// the product moved down, because the compiler takes a multiplied bit of 0 or 1 for a choice.
 pub fn twice(b: u8) -> u8
     ensures { λ r. ⌜ r ≡ product 2 b ⌝ }
 {
