@@ -6,6 +6,8 @@
 
 #[path = "../second/aes.rs"]
 mod aes;
+#[path = "../second/bits.rs"]
+mod bits;
 #[path = "../second/block.rs"]
 mod block;
 #[path = "../second/call.rs"]

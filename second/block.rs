@@ -1,6 +1,8 @@
 //! Blocks of sixteen bytes: sum, padding, doubling (000, section 1.3).
 
 pub const BLOCK_BYTES: usize = 16;
+/// The paper's n.
+pub const BLOCK_BITS: usize = 8 * BLOCK_BYTES;
 pub type Block = [u8; BLOCK_BYTES];
 pub const ZERO: Block = [0; BLOCK_BYTES];
 

@@ -1,4 +1,5 @@
-//! The call level: 01, "Numbers a call may carry" and "What comes back".
+//! The call level: 01, "Numbers a call may carry" and "What comes back", with wish 5 of 02:
+//! a nonce has 1 to 15 bytes.
 
 use crate::aes::Aes;
 use crate::otr::{otr_d, otr_e};
@@ -67,7 +68,7 @@ pub fn open(
 }
 
 fn refusal_2_to_4(nonce: &[u8], data: &[u8], t: usize) -> Option<u8> {
-    if !(1..=14).contains(&nonce.len()) {
+    if !(1..=15).contains(&nonce.len()) {
         Some(2)
     } else if !(4..=16).contains(&t) {
         Some(3)

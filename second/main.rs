@@ -1,8 +1,10 @@
 //! Shaftladder's independent second program: AES-OTR v3.1 with parallel ADP,
-//! written from the paper (000) and the exact rules (01) alone. See README.md.
+//! written from the paper (000) and the exact rules (01, and wish 5 of 02) alone.
+//! See README.md.
 
 mod aes;
 mod aes_rows;
+mod bits;
 mod block;
 mod call;
 mod failure;

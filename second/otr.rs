@@ -4,9 +4,10 @@
 //! 12, 13 and 17; DF, lines 10, 13 and 17; AF, line 7); 01 says where it belongs.
 //! The tag length t is in bytes, tau = 8t.
 
+use crate::bits::{bits_of, bytes_of, n2s, zeros};
 use crate::block::{
     double, full, pad, partition, times_3, times_3_squared, times_7, xor, xor_first, Block,
-    BLOCK_BYTES, ZERO,
+    BLOCK_BITS, BLOCK_BYTES, ZERO,
 };
 
 pub type Cipher<'a> = &'a dyn Fn(&Block) -> Block;
@@ -34,15 +35,19 @@ fn tag(e: Cipher, t: usize, te: &Block, a: &[u8]) -> Vec<u8> {
     xor(te, &ta)[..t].to_vec()
 }
 
-/// Format: seven bits of tau mod n, zeros, a one bit, N.
+/// Format(tau, N) as figure 1 states it, bit for bit, for N of 1 to 15 bytes:
+/// n2s(tau mod n, 7) || 0^(n - 8 - |N|) || 1 || N, where the paper's n is 128 and |N| in bits.
 pub fn format(t: usize, n: &[u8]) -> Block {
-    let mut block = ZERO;
-    let tau_mod_n = 8 * (t % BLOCK_BYTES);
-    block[0] = 2 * tau_mod_n as u8;
-    let start = BLOCK_BYTES - n.len();
-    block[start - 1] |= 1;
-    block[start..].copy_from_slice(n);
-    block
+    let tau = 8 * t;
+    let nonce = bits_of(n);
+    let string = [
+        n2s(tau % BLOCK_BITS, 7),
+        zeros(BLOCK_BITS - 8 - nonce.len()),
+        vec![true],
+        nonce,
+    ]
+    .concat();
+    full(&bytes_of(&string))
 }
 
 /// What EF and DF carry from chunk to chunk.

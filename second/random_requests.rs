@@ -22,7 +22,7 @@ pub fn random_request(draw: &mut Generator) -> Request {
 
 fn sound_sealing(draw: &mut Generator) -> Request {
     let key_bytes = draw.pick(&[16, 24, 32]);
-    let nonce_bytes = draw.pick(&[12, 12, 12, 1, 2, 3, 4, 5, 6, 7, 8, 9, 10, 11, 13, 14]);
+    let nonce_bytes = draw.pick(&[12, 12, 12, 1, 2, 3, 4, 5, 6, 7, 8, 9, 10, 11, 13, 14, 15]);
     let data_bytes = if draw.one_in(4) { 0 } else { some_length(draw) };
     let message_bytes = some_length(draw);
     let t = if draw.one_in(2) {
@@ -91,7 +91,7 @@ fn mishap(draw: &mut Generator, request: &mut Request) {
             request.key = draw.bytes(len);
         }
         5..=8 => {
-            let len = draw.pick(&[0, 15, 16, 20]);
+            let len = draw.pick(&[0, 16, 17, 20]);
             request.nonce = draw.bytes(len);
         }
         9..=12 => request.t = draw.pick(&[0, 1, 2, 3, 17, 18, 19, 20]),

@@ -61,6 +61,7 @@ pub fn seam_lengths() -> Vec<Lengths> {
     for nonce in 0..=16 {
         list.push(Lengths { nonce, ..USUAL });
     }
+    list.extend(longest_nonces());
     for message in [0, 17, 33] {
         for t in 3..=17 {
             list.push(Lengths {
@@ -81,5 +82,16 @@ pub fn seam_lengths() -> Vec<Lengths> {
         t: 3,
         ..USUAL
     });
+    list
+}
+
+/// The longest nonce and one byte more, at every tag length.
+fn longest_nonces() -> Vec<Lengths> {
+    let mut list = Vec::new();
+    for nonce in [15, 16] {
+        for t in 4..=16 {
+            list.push(Lengths { nonce, t, ..USUAL });
+        }
+    }
     list
 }

@@ -136,7 +136,7 @@ fn two_faults(draw: &mut Generator, kind: Kind) -> Vec<Request> {
 fn add_fault(draw: &mut Generator, request: &mut Request, number: u8) {
     match number {
         1 => request.key = draw.bytes(17),
-        2 => request.nonce = draw.bytes(15),
+        2 => request.nonce = draw.bytes(16),
         3 => request.t = 3,
         4 => request.data = draw.bytes(DATA_MAX + 1),
         5 => request.body = draw.bytes(MESSAGE_MAX + 17),

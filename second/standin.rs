@@ -5,7 +5,17 @@ use crate::rows::{row_line, Row};
 
 const MESSAGES: [usize; 14] = [0, 1, 15, 16, 17, 31, 32, 33, 47, 48, 49, 64, 65, 100];
 const DATA: [usize; 6] = [0, 1, 15, 16, 17, 33];
-const K_AND_T: [(usize, usize); 6] = [(1, 4), (7, 8), (12, 12), (14, 16), (14, 5), (3, 15)];
+const K_AND_T: [(usize, usize); 9] = [
+    (1, 4),
+    (7, 8),
+    (12, 12),
+    (14, 16),
+    (14, 5),
+    (3, 15),
+    (15, 15),
+    (15, 16),
+    (15, 4),
+];
 
 /// E(b)[i] = (5 b[i] + 3 b[(i + 1) mod 16] + 7 i + 11) mod 256.
 pub fn stand_in(b: &Block) -> Block {

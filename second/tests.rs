@@ -1,7 +1,8 @@
 //! The program's own tests: `rustc --test`.
 
 use crate::aes::{substitute, Aes};
-use crate::block::{double, pad, times_3_squared, times_7, Block, BLOCK_BYTES};
+use crate::bits::n2s;
+use crate::block::{double, pad, times_3_squared, times_7, Block, BLOCK_BYTES, ZERO};
 use crate::call::{open, seal};
 use crate::hex;
 use crate::otr::{format, otr_d, otr_e};
@@ -79,6 +80,75 @@ fn small_rows() {
     assert_eq!(substitute(0x53), 0xed);
 }
 
+/// 000, section 1.3: n2s(11, 5) = 01011.
+#[test]
+fn n2s_example() {
+    assert_eq!(n2s(11, 5), [false, true, false, true, true]);
+}
+
+/// For |N| = 120 figure 1 has no zeros between the seven bits and the 1:
+/// t = 15 is 1111000 1, t = 16 is 0000000 1, t = 4 is 0100000 1.
+#[test]
+fn format_of_15_bytes() {
+    let nonce = bytes("0123456789abcdeffedcba98765432");
+    assert_eq!(
+        format(15, &nonce),
+        block("f10123456789abcdeffedcba98765432")
+    );
+    assert_eq!(
+        format(16, &nonce),
+        block("010123456789abcdeffedcba98765432")
+    );
+    assert_eq!(format(4, &nonce), block("410123456789abcdeffedcba98765432"));
+}
+
+/// 01, "The nonce block": its words hold for nonces of 1 to 14 bytes.
+#[test]
+fn format_of_1_to_14_bytes() {
+    for t in 4..=16 {
+        for k in 1..=14 {
+            let nonce = rules::nonce(k);
+            let mut expected = ZERO;
+            expected[0] = (2 * (8 * t % 128)) as u8;
+            expected[15 - k] = 0x01;
+            expected[16 - k..].copy_from_slice(&nonce);
+            assert_eq!(format(t, &nonce), expected);
+        }
+    }
+}
+
+#[test]
+fn nonces_of_0_and_16_bytes_are_refused_and_the_output_kept() {
+    let (key, data, body) = (rules::key(16), rules::data(5), rules::message(40));
+    for k in [0, 16] {
+        for t in 4..=16 {
+            for call in [seal, open] {
+                let mut output = vec![0xa5; 60];
+                let answer = call(&key, &rules::nonce(k), &data, &body, t, &mut output);
+                assert_eq!((answer.number, answer.length), (2, 0));
+                assert_eq!(output, [0xa5; 60]);
+            }
+        }
+    }
+}
+
+#[test]
+fn a_nonce_of_15_bytes_seals_and_opens_at_every_t() {
+    let (key, nonce, data) = (rules::key(32), rules::nonce(15), rules::data(17));
+    for t in 4..=16 {
+        for len in [0, 1, 16, 17, 33] {
+            let message = rules::message(len);
+            let mut sealed = vec![0xa5; len + t];
+            let answer = seal(&key, &nonce, &data, &message, t, &mut sealed);
+            assert_eq!((answer.number, answer.length), (0, len + t));
+            let mut output = vec![0xa5; len];
+            let answer = open(&key, &nonce, &data, &sealed, t, &mut output);
+            assert_eq!((answer.number, answer.length), (0, len));
+            assert_eq!(output, message);
+        }
+    }
+}
+
 #[test]
 fn opening_undoes_sealing() {
     let (n, a) = (rules::nonce(12), rules::data(17));
@@ -92,19 +162,25 @@ fn opening_undoes_sealing() {
 
 #[test]
 fn every_changed_bit_is_refused_and_the_output_zeroed() {
-    let (key, nonce, data) = (rules::key(24), rules::nonce(14), rules::data(5));
-    for len in [0, 1, 16, 17, 32, 33, 48, 49] {
-        let mut sealed = vec![0xa5; len + 12];
-        let answer = seal(&key, &nonce, &data, &rules::message(len), 12, &mut sealed);
-        assert_eq!((answer.number, answer.length), (0, len + 12));
-        for bit in 0..8 * sealed.len() {
-            sealed[bit / 8] ^= 1 << (bit % 8);
-            let mut output = vec![0xa5; len + 3];
-            let answer = open(&key, &nonce, &data, &sealed, 12, &mut output);
-            assert_eq!((answer.number, answer.length), (7, 0));
-            assert_eq!(output, [vec![0; len], vec![0xa5; 3]].concat());
-            sealed[bit / 8] ^= 1 << (bit % 8);
+    for k in [14, 15] {
+        for len in [0, 1, 16, 17, 32, 33, 48, 49] {
+            check_changed_bits(&rules::nonce(k), len);
         }
+    }
+}
+
+fn check_changed_bits(nonce: &[u8], len: usize) {
+    let (key, data) = (rules::key(24), rules::data(5));
+    let mut sealed = vec![0xa5; len + 12];
+    let answer = seal(&key, nonce, &data, &rules::message(len), 12, &mut sealed);
+    assert_eq!((answer.number, answer.length), (0, len + 12));
+    for bit in 0..8 * sealed.len() {
+        sealed[bit / 8] ^= 1 << (bit % 8);
+        let mut output = vec![0xa5; len + 3];
+        let answer = open(&key, nonce, &data, &sealed, 12, &mut output);
+        assert_eq!((answer.number, answer.length), (7, 0));
+        assert_eq!(output, [vec![0; len], vec![0xa5; 3]].concat());
+        sealed[bit / 8] ^= 1 << (bit % 8);
     }
 }
 

@@ -16,6 +16,15 @@ pub fn command(file_requests: &str, file_answers: &str) -> Result<String, Failur
         ..sealing.opening().expect("the tour's sealing is done")
     };
     tour.call("0: opened.", &opening);
+    let longest = Request {
+        nonce: rules::nonce(15),
+        t: 15,
+        ..sealing.clone()
+    };
+    tour.call(
+        "0: sealed with a nonce of 15 bytes, the longest, and a tag of 15.",
+        &longest,
+    );
     refusals(&mut tour, &sealing, &opening);
     tour.bad("A field too few.", "seal 00 01 02 03 16");
     tour.bad("Two spaces.", "seal 00 01  02 03 16 4");
@@ -47,9 +56,9 @@ fn refusals(tour: &mut Tour, sealing: &Request, opening: &Request) {
             ..sealing.clone()
         },
     );
-    let nonce = rules::nonce(15);
+    let nonce = rules::nonce(16);
     tour.call(
-        "2: a nonce of 15 bytes.",
+        "2: a nonce of 16 bytes.",
         &Request {
             nonce,
             ..sealing.clone()

@@ -61,7 +61,7 @@ unfolding Seals sealCheck callCheck
 sealing-answers key nonce ad m t out r after p =
     let q = by-seal (sealCheck (length key) (length nonce) t (length ad) (length m) (length out)) (sealing key nonce ad t m) out r after p in (
       q .0
-          ∙ number-of (eqb (length key) 16 || (eqb (length key) 24 || eqb (length key) 32)) (from-to 1 14 (length nonce)) (from-to 4 16 t) (leb (length ad) 4096)
+          ∙ number-of (eqb (length key) 16 || (eqb (length key) 24 || eqb (length key) 32)) (from-to 1 15 (length nonce)) (from-to 4 16 t) (leb (length ad) 4096)
           (leb (length m) 16384) (leb (length m + t) (length out)) (length m + t),
       q .1,
     )
@@ -142,7 +142,7 @@ opening-answers key nonce ad s t out r after p =
 
     number : numberOf (asAnswer checks) ≡ firstFailing 1 (openChecks key nonce ad s t out)
     number =
-        number-of key-in (from-to 1 14 (length nonce)) (from-to 4 16 t) (leb (length ad) 4096) (from-to t (16384 + t) (length s))
+        number-of key-in (from-to 1 15 (length nonce)) (from-to 4 16 t) (leb (length ad) 4096) (from-to t (16384 + t) (length s))
         (leb (length s - t) (length out)) (length s - t)
 
     not7 : numberOf (asAnswer checks) ≡ 7 → ⊥

@@ -30,7 +30,7 @@ pub record Opening (seal : List ℕ → List ℕ) (s out : List ℕ) (r : Answer
       → (m : List ℕ) × (seal m ≡ s) × ((n : List ℕ) → seal n ≡ s → n ≡ m) × (lengthOf r ≡ length m) × (after ≡ lay 0 m out)
 
 -- ---- for any cipher E
-module _ (E : List ℕ → List ℕ) (e : IsCipher E) (nonce ad s : List ℕ) (t : ℕ) (hn : length nonce ≤ 14) (ht : t ≤ 16) (out : List ℕ) (r : Answer) (after : List ℕ) where
+module _ (E : List ℕ → List ℕ) (e : IsCipher E) (nonce ad s : List ℕ) (t : ℕ) (hn : length nonce ≤ 15) (ht : t ≤ 16) (out : List ℕ) (r : Answer) (after : List ℕ) where
   pub any-cipher : OpensBy (pass (length s - t)) (otr E nonce ad t) s out r after → Opening (otr E nonce ad t) s out r after
   any-cipher (accepted m, q, h, f) =
       let done-is : numberOf r ≡ 0 = ap numberOf h in

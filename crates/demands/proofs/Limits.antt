@@ -21,7 +21,7 @@ module _ (key nonce t ad : ℕ) where
   call-passes : (next : Check) → Limits key nonce t ad → callCheck key nonce t ad next ≡ next
   unfolding callCheck
   call-passes next f =
-      rw (known key (f .keys), range 1 14 nonce (f .nonces .0) (f .nonces .1), range 4 16 t (f .tags .0) (f .tags .1), le-leb ad 4096 (f .most))
+      rw (known key (f .keys), range 1 15 nonce (f .nonces .0) (f .nonces .1), range 4 16 t (f .tags .0) (f .tags .1), le-leb ad 4096 (f .most))
 
   pub seal-passes : (m o : ℕ) → Limits key nonce t ad → m ≤ 16384 → m + t ≤ o → sealCheck key nonce t ad m o ≡ pass (m + t)
   unfolding sealCheck

@@ -2,8 +2,8 @@
 use mathlib.Core.Path.{_≡_, refl, sym, ap, _∙_}
 use mathlib.Core.Bool.{false}
 use mathlib.Core.Logic.{inl}
-use mathlib.Core.List.{List, [], _∷_, _++_, append-assoc}
-use Prim.Native.Nat.{ℕ, _+_, _*_, _<_}
+use mathlib.Core.List.{List, [], _∷_, _++_, zipWith, append-assoc}
+use Prim.Native.Nat.{ℕ, _+_, _*_, _≤_, _<_}
 use native.Mathlib.Nat.{add-zero}
 use native.Mathlib.Omega.{arith}
 use lib.Bits.{bitXor}
@@ -26,7 +26,8 @@ use Rattle.mode.specs.Nonce.{format}
 use Rattle.mode.specs.Sealing.{tag, sealed, otr}
 use Rattle.mode.proofs.Pairs.{length-pairs}
 use Rattle.mode.proofs.Parts.{body-parts}
-use Rattle.mode.proofs.Third.{length-doubles, third-masks, length-format, length-otr, otr-injective}
+use Rattle.mode.proofs.Format.{length-format}
+use Rattle.mode.proofs.Third.{length-doubles, third-masks, length-otr, otr-injective}
 use Rattle.link.specs.Answers.{numberOf}
 use Rattle.link.specs.Promises.{Seals, Opens}
 use Rattle.link.specs.declared.answer.Answer.{Answer}
@@ -52,8 +53,11 @@ room = bytes 17 0
 abbrev pub small : List ℕ
 small = 0 ∷ []
 
+within : (k t : ℕ) → (1 ≤ k) × (k ≤ 15) → (4 ≤ t) × (t ≤ 16) → Limits 16 k t 0
+within k t hk ht = record { keys = inl refl; nonces = hk; tags = ht; most = omega arith }
+
 limits : Limits 16 12 16 0
-limits = record { keys = inl refl; nonces = (omega arith, omega arith); tags = (omega arith, omega arith); most = omega arith }
+limits = within 12 16 (omega arith, omega arith) (omega arith, omega arith)
 
 -- what the message of one byte x seals to
 pub s : ℕ → List ℕ
@@ -68,13 +72,18 @@ injective : s 0 ≡ s 1 → ⊥
 unfolding s
 injective e = differ (otr-injective (aes key) (aes-cipher key) nonce [] 16 (omega arith) (omega arith) (one 0) (one 1) e)
 
--- a buffer of 17 bytes is the sealed string afterwards, and one of one byte the message again
+-- a buffer with exactly the room is the sealed string afterwards
+all-sealed : (nonce m : List ℕ) (t : ℕ) (room : List ℕ) → Limits 16 (length nonce) t 0 → length m ≤ 16384 → length room ≡ length m + t
+    → (r : Answer) (after : List ℕ) → Seals key nonce [] m t room r after → (numberOf r ≡ 0) × (after ≡ otr (aes key) nonce [] t m)
+all-sealed nonce m t room f short exact r after p =
+    let q = is-sealed key nonce [] m t f short room (omega arith) r after p in
+    let long = length-otr (aes key) (aes-cipher key) nonce [] t (f .nonces .1) (f .tags .1) m in
+    (ap numberOf (q .0), q .1 ∙ lay-whole (otr (aes key) nonce [] t m) room (omega (arith, long)))
+
+-- one of 17 bytes the sealed byte, and one of one byte the message again
 sealed-one : (x : ℕ) (r : Answer) (after : List ℕ) → Seals key nonce [] (one x) 16 room r after → (numberOf r ≡ 0) × (after ≡ s x)
 unfolding s
-sealed-one x r after p =
-    let q = is-sealed key nonce [] (one x) 16 limits (omega arith) room (omega arith) r after p in
-    let long : length (s x) ≡ 17 = length-otr (aes key) (aes-cipher key) nonce [] 16 (omega arith) (omega arith) (one x) in
-    (ap numberOf (q .0), q .1 ∙ lay-whole (s x) room (omega (arith, long)))
+sealed-one x = all-sealed nonce (one x) 16 room limits (omega arith) refl
 
 opened-one : (x : ℕ) (r : Answer) (after : List ℕ) → Opens key nonce [] (s x) 16 small r after → (numberOf r ≡ 0) × (after ≡ one x)
 unfolding s
@@ -125,15 +134,15 @@ u : List ℕ
 u = aes key (format 16 nonce)
 
 first-mask : getD (aes key u) 0 0 ≡ 0xe0
-unfolding u xor zeros format product inverse affine substitute addRoundKey round lastRound rounds cipher power temp next words keyExpansion aes
+unfolding u xor zeros zipWith format product inverse affine substitute addRoundKey round lastRound rounds cipher power temp next words keyExpansion aes
 first-mask = refl
 
 second-mask : getD (aes key (double u)) 0 0 ≡ 0x3a
-unfolding u xor zeros format shift double product inverse affine substitute addRoundKey round lastRound rounds cipher power temp next words keyExpansion aes
+unfolding u xor zeros zipWith format shift double product inverse affine substitute addRoundKey round lastRound rounds cipher power temp next words keyExpansion aes
 second-mask = refl
 
 -- the byte of a sealed string behind its pairs, where one block remains
-module _ (E : List ℕ → List ℕ) (e : IsCipher E) (v a m : List ℕ) (hv : length v ≡ 16) (odd : even (length m) ≡ false)
+module _ (E : List ℕ → List ℕ) (e : IsCipher E) (v a m : List ℕ) (t : ℕ) (hv : length v ≡ 16) (odd : even (length m) ≡ false)
     (some : 32 * pairsOf (length m) < length m) where
   n : ℕ
   n = pairsOf (length m)
@@ -154,19 +163,19 @@ module _ (E : List ℕ → List ℕ) (e : IsCipher E) (v a m : List ℕ) (hv : l
   mask-long : length (E (doubles n v)) ≡ 16
   mask-long = e (doubles n v) (length-doubles n v hv)
 
-  byte-behind : getD (sealed E (third v) a 16 m) (32 * pairsOf (length m)) 0 ≡ bitXor (getD m (32 * pairsOf (length m)) 0) (getD (E (doubles (pairsOf (length m)) v)) 0 0)
+  byte-behind : getD (sealed E (third v) a t m) (32 * pairsOf (length m)) 0 ≡ bitXor (getD m (32 * pairsOf (length m)) 0) (getD (E (doubles (pairsOf (length m)) v)) 0 0)
   unfolding n front end sealed
   byte-behind =
-      ap (λ (l : List ℕ). getD (l ++ t) (32 * n) 0) (body-parts E (third v) false m odd)
-      ∙ ap (λ (l : List ℕ). getD l (32 * n) 0) (append-assoc front end t)
-      ∙ ap (λ (i : ℕ). getD (front ++ (end ++ t)) i 0) place
-      ∙ getD-append-add front (end ++ t) 0 0
-      ∙ List·getD-append end t 0 0 (omega (arith, length-xor (rest m) (E (doubles n v)), rest-some, mask-long))
+      ap (λ (l : List ℕ). getD (l ++ tag-behind) (32 * n) 0) (body-parts E (third v) false m odd)
+      ∙ ap (λ (l : List ℕ). getD l (32 * n) 0) (append-assoc front end tag-behind)
+      ∙ ap (λ (i : ℕ). getD (front ++ (end ++ tag-behind)) i 0) place
+      ∙ getD-append-add front (end ++ tag-behind) 0 0
+      ∙ List·getD-append end tag-behind 0 0 (omega (arith, length-xor (rest m) (E (doubles n v)), rest-some, mask-long))
       ∙ getD-xor 0 (rest m) (E (doubles n v)) rest-some (omega (arith, mask-long))
       ∙ ap (λ (x : ℕ). bitXor x (getD (E (doubles n v)) 0 0)) (getD-drop (32 * n) m 0 0 ∙ ap (λ (i : ℕ). getD m i 0) (add-zero (32 * n)))
     where
-      t : List ℕ
-      t = tag E (third v) a 16 m
+      tag-behind : List ℕ
+      tag-behind = tag E (third v) a t m
 
       place : 32 * n ≡ length front + 0
       place = omega (arith, front-long)
@@ -179,7 +188,7 @@ u-long = aes-cipher key (format 16 nonce) (length-format 16 nonce (omega arith))
 first-byte : getD (s 0) 0 0 ≡ 0xe0
 unfolding s u blocks pairsOf even doubles
 first-byte =
-    byte-behind (aes key) (aes-cipher key) u (ta (aes key) []) (one 0) u-long refl (omega arith)
+    byte-behind (aes key) (aes-cipher key) u (ta (aes key) []) (one 0) 16 u-long refl (omega arith)
     ∙ ap (bitXor 0) first-mask
 
 pub copies-through : (r : Answer) (after : List ℕ) → getD after 0 0 ≡ 0 → Seals key nonce [] (one 0) 16 room r after → ⊥
@@ -203,13 +212,59 @@ room33 = bytes 49 0
 byte-32 : getD (otr (aes key) nonce [] 16 m33) 32 0 ≡ 0x3a
 unfolding u blocks pairsOf even doubles
 byte-32 =
-    byte-behind (aes key) (aes-cipher key) u (ta (aes key) []) m33 u-long refl (omega arith)
+    byte-behind (aes key) (aes-cipher key) u (ta (aes key) []) m33 16 u-long refl (omega arith)
     ∙ ap (bitXor 0) second-mask
 
 pub first-pair-alone : (r : Answer) (after : List ℕ) → getD after 32 0 ≡ 0 → Seals key nonce [] m33 16 room33 r after → ⊥
 first-pair-alone r after h p =
-    let q = is-sealed key nonce [] m33 16 limits (omega arith) room33 (omega arith) r after p in
-    let x = otr (aes key) nonce [] 16 m33 in
-    let long : length x ≡ 49 = length-otr (aes key) (aes-cipher key) nonce [] 16 (omega arith) (omega arith) m33 in
-    let z : getD after 32 0 ≡ 0x3a = ap (λ (l : List ℕ). getD l 32 0) (q .1 ∙ lay-whole x room33 (omega arith)) ∙ byte-32 in
+    let z : getD after 32 0 ≡ 0x3a = ap (λ (l : List ℕ). getD l 32 0) (all-sealed nonce m33 16 room33 limits (omega arith) refl r after p .1) ∙ byte-32 in
     omega arith
+
+-- ---- a nonce of 15 bytes and a tag of 15: byte 0 of the nonce block is f1
+abbrev pub nonce15 : List ℕ
+nonce15 = bytes 15 0
+
+abbrev pub room16 : List ℕ
+room16 = bytes 16 0
+
+limits-15 : Limits 16 15 15 0
+limits-15 = within 15 15 (omega arith, omega arith) (omega arith, omega arith)
+
+sealed-15 : (r : Answer) (after : List ℕ) → Seals key nonce15 [] (one 0) 15 room16 r after
+    → (numberOf r ≡ 0) × (after ≡ otr (aes key) nonce15 [] 15 (one 0))
+sealed-15 = all-sealed nonce15 (one 0) 15 room16 limits-15 (omega arith) refl
+
+-- refuses it, as all did before document 02's wish 5
+pub refuses-sealing-15 : (r : Answer) (after : List ℕ) → numberOf r ≡ 2 → Seals key nonce15 [] (one 0) 15 room16 r after → ⊥
+refuses-sealing-15 r after h p = let z = sealed-15 r after p .0 in omega arith
+
+pub refuses-opening-15 : (r : Answer) (after : List ℕ) → numberOf r ≡ 2
+    → Opens key nonce15 [] (otr (aes key) nonce15 [] 15 (one 0)) 15 small r after → ⊥
+refuses-opening-15 r after h p =
+    let z : numberOf r ≡ 0 = ap numberOf (round-trip key nonce15 [] (one 0) 15 limits-15 (omega arith) small (omega arith) r after p .0) in
+    omega arith
+
+-- lays the marker over the tag byte, so that the nonce block is 01 and the nonce
+first-mask-15 : getD (aes key (aes key (format 15 nonce15))) 0 0 ≡ 0x99
+unfolding xor zeros zipWith format product inverse affine substitute addRoundKey round lastRound rounds cipher power temp next words keyExpansion aes
+first-mask-15 = refl
+
+first-mask-laid : getD (aes key (aes key (1 ∷ nonce15))) 0 0 ≡ 0x83
+unfolding xor product inverse affine substitute addRoundKey round lastRound rounds cipher power temp next words keyExpansion aes
+first-mask-laid = refl
+
+first-byte-15 : (b : List ℕ) → length b ≡ 16
+    → getD (sealed (aes key) (third (aes key b)) (ta (aes key) []) 15 (one 0)) 0 0 ≡ bitXor 0 (getD (aes key (aes key b)) 0 0)
+unfolding blocks pairsOf even doubles
+first-byte-15 b h =
+    byte-behind (aes key) (aes-cipher key) (aes key b) (ta (aes key) []) (one 0) 15 (aes-cipher key b h) refl (omega arith)
+
+pub marker-laid-over : (r : Answer)
+    → Seals key nonce15 [] (one 0) 15 room16 r (sealed (aes key) (third (aes key (1 ∷ nonce15))) (ta (aes key) []) 15 (one 0)) → ⊥
+marker-laid-over r p = let z : _≡_ {A = ℕ} 0x83 0x99 = sym laid ∙ ap (λ (l : List ℕ). getD l 0 0) (sealed-15 r _ p .1) ∙ added in omega arith
+  where
+    laid : getD (sealed (aes key) (third (aes key (1 ∷ nonce15))) (ta (aes key) []) 15 (one 0)) 0 0 ≡ 0x83
+    laid = first-byte-15 (1 ∷ nonce15) refl ∙ ap (bitXor 0) first-mask-laid
+
+    added : getD (otr (aes key) nonce15 [] 15 (one 0)) 0 0 ≡ 0x99
+    added = first-byte-15 (format 15 nonce15) (length-format 15 nonce15 (omega arith)) ∙ ap (bitXor 0) first-mask-15

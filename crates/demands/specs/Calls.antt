@@ -18,7 +18,7 @@ firstFailing i (false ∷ checks) = i
 abbrev pub sealChecks : List ℕ → List ℕ → List ℕ → List ℕ → ℕ → List ℕ → List Bool
 sealChecks key nonce ad m t out =
     (eqb (length key) 16 || (eqb (length key) 24 || eqb (length key) 32))
-    ∷ from-to 1 14 (length nonce)
+    ∷ from-to 1 15 (length nonce)
     ∷ from-to 4 16 t
     ∷ leb (length ad) 4096
     ∷ leb (length m) 16384
@@ -28,7 +28,7 @@ sealChecks key nonce ad m t out =
 abbrev pub openChecks : List ℕ → List ℕ → List ℕ → List ℕ → ℕ → List ℕ → List Bool
 openChecks key nonce ad s t out =
     (eqb (length key) 16 || (eqb (length key) 24 || eqb (length key) 32))
-    ∷ from-to 1 14 (length nonce)
+    ∷ from-to 1 15 (length nonce)
     ∷ from-to 4 16 t
     ∷ leb (length ad) 4096
     ∷ from-to t (16384 + t) (length s)
@@ -38,6 +38,6 @@ openChecks key nonce ad s t out =
 -- the limits of document 01 on the lengths of key, nonce, tag and associated data
 pub record Limits (key nonce t ad : ℕ) : Type 0 where
   pub keys : (key ≡ 16) ⊎ ((key ≡ 24) ⊎ (key ≡ 32))
-  pub nonces : (1 ≤ nonce) × (nonce ≤ 14)
+  pub nonces : (1 ≤ nonce) × (nonce ≤ 15)
   pub tags : (4 ≤ t) × (t ≤ 16)
   pub most : ad ≤ 4096

@@ -43,7 +43,7 @@ within l h a t =
 -- ---- what checks 1 to 4 make sure of
 pub record Called (key nonce t ad : ℕ) : Type 0 where
   pub known : (eqb key 16 || (eqb key 24 || eqb key 32)) ≡ true
-  pub nonces : (1 ≤ nonce) × (nonce ≤ 14)
+  pub nonces : (1 ≤ nonce) × (nonce ≤ 15)
   pub tags : (4 ≤ t) × (t ≤ 16)
   pub data-most : ad ≤ 4096
 
@@ -53,10 +53,10 @@ module _ (key nonce t ad : ℕ) where
   unfolding callCheck
   after P n c f =
       checked (eqb key 16 || (eqb key 24 || eqb key 32)) Key (λ z. omega arith) λ k.
-      checked (from-to 1 14 nonce) Nonce (λ z. omega arith) λ s.
+      checked (from-to 1 15 nonce) Nonce (λ z. omega arith) λ s.
       checked (from-to 4 16 t) Tag (λ z. omega arith) λ g.
       checked (leb ad 4096) Data (λ z. omega arith) λ a.
-      f (record { known = k; nonces = within 1 14 nonce s; tags = within 4 16 t g; data-most = leb-true ad 4096 a })
+      f (record { known = k; nonces = within 1 15 nonce s; tags = within 4 16 t g; data-most = leb-true ad 4096 a })
 
   call-verdict : Verdict (Called key nonce t ad) 0 (callCheck key nonce t ad (pass 0))
   call-verdict = after (Called key nonce t ad) 0 (pass 0) (λ h. passes h refl)
@@ -92,7 +92,7 @@ module _ (key nonce t ad : ℕ) where
   unfolding callCheck
   guard next =
       guarded (eqb key 16 || (eqb key 24 || eqb key 32)) Key (λ z. omega arith)
-      (guarded (from-to 1 14 nonce) Nonce (λ z. omega arith)
+      (guarded (from-to 1 15 nonce) Nonce (λ z. omega arith)
       (guarded (from-to 4 16 t) Tag (λ z. omega arith)
       (guarded (leb ad 4096) Data (λ z. omega arith) (lets-by refl refl))))
 

@@ -23,7 +23,7 @@ unless false r next = stop r
 unfoldable pub callCheck : ℕ → ℕ → ℕ → ℕ → Check → Check
 callCheck key nonce t ad next =
     unless (eqb key 16 || (eqb key 24 || eqb key 32)) Key
-    (unless (from-to 1 14 nonce) Nonce
+    (unless (from-to 1 15 nonce) Nonce
     (unless (from-to 4 16 t) Tag
     (unless (leb ad 4096) Data next)))
 

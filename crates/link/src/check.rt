@@ -27,7 +27,7 @@ fn call_check(key: usize, nonce: usize, tag: usize, ad: usize) -> Answer
     else {
         return Answer::Key;
     };
-    if !from_to(1, 14, nonce) {
+    if !from_to(1, 15, nonce) {
         return Answer::Nonce;
     }
     if !from_to(4, 16, tag) {

@@ -1,7 +1,7 @@
--- The definitions computed: over a small stand-in cipher, held to what the second program gives; and the nonce block, held to rows
--- W8 to W10 of document 01. Assumes nothing.
+-- The definitions computed: the nonce block, held to rows W8 to W10 of document 01 and to document 02's wish 5; and all of them over a
+-- small stand-in cipher, held to what the second program gives. Assumes nothing.
 use mathlib.Core.Path.{_≡_, refl}
-use mathlib.Core.List.{List, [], _∷_, map}
+use mathlib.Core.List.{List, [], _∷_, map, zipWith}
 use Prim.Native.Nat.{ℕ, _+_, _*_, _%_}
 use lib.ListN.{getD}
 use Rattle.lists.specs.Hex.{bytes}
@@ -16,6 +16,21 @@ use Rattle.mode.specs.Nonce.{format}
 use Rattle.mode.specs.Sealing.{tag, sealed, otr}
 use Rattle.mode.proofs.Expected.{Row, expected}
 
+-- W8, W9 and W10
+pub nonces : format 16 (bytes 12 0xa0a1a2a3a4a5a6a7a8a9aaab) ∷ format 4 (bytes 12 0xa0a1a2a3a4a5a6a7a8a9aaab) ∷ format 8 (bytes 1 0xab) ∷ []
+    ≡ bytes 16 0x00000001a0a1a2a3a4a5a6a7a8a9aaab ∷ bytes 16 0x40000001a0a1a2a3a4a5a6a7a8a9aaab ∷ bytes 16 0x800000000000000000000000000001ab ∷ []
+unfolding zeros zipWith format
+nonces = refl
+
+-- 15 bytes, with tags of 15, 16 and 4
+abbrev nonce15 : List ℕ
+nonce15 = bytes 15 0xa0a1a2a3a4a5a6a7a8a9aaabacadae
+
+pub nonces-of-15 : format 15 nonce15 ∷ format 16 nonce15 ∷ format 4 nonce15 ∷ []
+    ≡ bytes 16 0xf1a0a1a2a3a4a5a6a7a8a9aaabacadae ∷ bytes 16 0x01a0a1a2a3a4a5a6a7a8a9aaabacadae ∷ bytes 16 0x41a0a1a2a3a4a5a6a7a8a9aaabacadae ∷ []
+unfolding zeros zipWith format
+nonces-of-15 = refl
+
 -- byte i is 5 times byte i, 3 times the next, and 7i + 11
 pub standIn : List ℕ → List ℕ
 standIn b = table (λ i. (5 * getD b i 0 + 3 * getD b ((i + 1) % 16) 0 + 7 * i + 11) % 256) 16
@@ -29,11 +44,5 @@ pub given : Row → List ℕ
 given (m, a, k, t, x) = bytes (m + t) x
 
 pub rows : map computed expected ≡ map given expected
-unfolding computed given standIn tableFrom xor zeros pad shift double doubles blocks pairsOf even short sum pairs body checksum te dataSum ta format tag sealed
+unfolding computed given standIn tableFrom xor zeros pad shift double doubles blocks pairsOf even short sum pairs body checksum te dataSum ta zipWith format tag sealed
 rows = refl
-
--- W8, W9 and W10
-pub nonces : format 16 (bytes 12 0xa0a1a2a3a4a5a6a7a8a9aaab) ∷ format 4 (bytes 12 0xa0a1a2a3a4a5a6a7a8a9aaab) ∷ format 8 (bytes 1 0xab) ∷ []
-    ≡ bytes 16 0x00000001a0a1a2a3a4a5a6a7a8a9aaab ∷ bytes 16 0x40000001a0a1a2a3a4a5a6a7a8a9aaab ∷ bytes 16 0x800000000000000000000000000001ab ∷ []
-unfolding zeros format
-nonces = refl

@@ -7,4 +7,5 @@ pub mod Walk
 pub mod Tag
 pub mod Parts
 pub mod Opens
+pub mod Format
 pub mod Third

@@ -6,7 +6,7 @@ use mathlib.Core.List.{List, [], _∷_}
 use Prim.Native.Nat.{ℕ, zero, suc, _+_, _-_, _*_, _/_, _≤_}
 use native.Mathlib.Omega.{arith}
 use lib.Dec.{ltb}
-use lib.ListN.{length, drop, length-append, length-drop}
+use lib.ListN.{length, drop, length-drop}
 use Rattle.lists.specs.Xor.{xor}
 use Rattle.lists.specs.Zeros.{zeros}
 use Rattle.lists.proofs.Zeros.{length-zeros}
@@ -20,6 +20,7 @@ use Rattle.mode.specs.Nonce.{format}
 use Rattle.mode.specs.Sealing.{tag, otr}
 use Rattle.mode.specs.Opening.{Opened, accepted, Allowed}
 use Rattle.mode.specs.Undoing.{unbody, opened}
+use Rattle.mode.proofs.Format.{length-format}
 use Rattle.mode.proofs.Pairs.{length-block}
 use Rattle.mode.proofs.Tag.{xor-sixteen}
 use Rattle.mode.proofs.Walk as Walk
@@ -42,11 +43,6 @@ doubled-masks l r hl hr =
 
 pub third-masks : (u : List ℕ) → length u ≡ 16 → AreMasks (third u)
 third-masks u h = doubled-masks u (triple u) h (length-triple u h)
-
-pub length-format : (t : ℕ) (n : List ℕ) → length n ≤ 14 → length (format t n) ≡ 16
-unfolding format
-length-format t n h =
-    omega (arith, length-append (zeros (14 - length n)) (1 ∷ n), length-zeros (14 - length n))
 
 -- ---- the data pass
 module _ (E : List ℕ → List ℕ) (e : IsCipher E) where
@@ -92,7 +88,7 @@ module _ (E : List ℕ → List ℕ) (e : IsCipher E) where
       length-dataEnd n (b ∷ bs) (drop (16 * n) (b ∷ bs)) (omega arith) (omega (arith, length-drop (16 * n) (b ∷ bs)))
 
 -- ---- the theorems, for v3.1
-module _ (E : List ℕ → List ℕ) (e : IsCipher E) (nonce ad : List ℕ) (t : ℕ) (hn : length nonce ≤ 14) (ht : t ≤ 16) where
+module _ (E : List ℕ → List ℕ) (e : IsCipher E) (nonce ad : List ℕ) (t : ℕ) (hn : length nonce ≤ 15) (ht : t ≤ 16) where
   abbrev masks : Masks
   masks = third (E (format t nonce))
 

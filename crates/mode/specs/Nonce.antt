@@ -1,9 +1,19 @@
--- The nonce block (document 01; source document 000, Fig. 1, Format), for nonces of 1 to 14 bytes and tags of t bytes.
-use mathlib.Core.List.{List, _∷_, _++_}
-use Prim.Native.Nat.{ℕ, _-_, _*_, _%_}
+-- The nonce block (source document 000, Fig. 1, Format; document 02, wish 5), for nonces of k bytes, 1 to 15, and tags of t bytes.
+-- In bits it is n2s(τ mod n, 7) ∥ 0…0 ∥ 1 ∥ N, where τ = 8t. The seven bits are the first of byte 0, and the 1 is the last of byte
+-- 15 − k: at k = 15 that is byte 0 too, so the two parts are added.
+use mathlib.Core.List.{List, _∷_, _++_, zipWith}
+use Prim.Native.Nat.{ℕ, _+_, _-_, _*_, _%_}
 use lib.ListN.{length}
 use Rattle.lists.specs.Zeros.{zeros}
 
--- the tag byte, 2 · (8t mod 128); zeros; 01; the nonce
+-- byte 0 carries 2 · (8t mod 128)
+abbrev pub tagPart : ℕ → List ℕ
+tagPart t = (2 * (8 * t % 128)) ∷ zeros 15
+
+-- byte 15 − k carries 1, and the nonce stands behind it
+abbrev pub noncePart : List ℕ → List ℕ
+noncePart n = zeros (15 - length n) ++ (1 ∷ n)
+
+-- added byte by byte
 unfoldable pub format : ℕ → List ℕ → List ℕ
-format t n = (2 * (8 * t % 128)) ∷ (zeros (14 - length n) ++ (1 ∷ n))
+format t n = zipWith _+_ (tagPart t) (noncePart n)

@@ -1,44 +1,56 @@
--- The nonce block as the code puts it together: two stores into zeros, and the nonce at the end. Assumes nothing.
-use mathlib.Core.Path.{_≡_, sym, ap, _∙_}
-use mathlib.Core.List.{List, [], _∷_, _++_, append-assoc}
-use Prim.Native.Nat.{ℕ, suc, _+_, _-_, _*_, _%_, _≤_}
+-- The nonce block as the code puts it together: the tag byte before zeros, 1 added to byte 15 − k, and the nonce laid behind that.
+-- Assumes nothing.
+use mathlib.Core.Path.{_≡_, refl, sym, ap, ap₂, _∙_}
+use mathlib.Core.List.{List, [], _∷_, _++_, zipWith}
+use Prim.Native.Nat.{ℕ, zero, suc, _+_, _-_, _*_, _%_, _≤_, _<_}
+use native.Mathlib.Nat.{add-zero, suc-add}
 use native.Mathlib.Omega.{arith}
-use lib.ListN.{length, set, length-append, replicate-append-replicate}
-use lib.Seq.{set-at}
+use lib.ListN.{length, getD, set, take, drop}
 use Rattle.lists.specs.Lay.{lay}
 use Rattle.lists.specs.Zeros.{zeros}
 use Rattle.lists.proofs.Zeros.{length-zeros}
 use Rattle.lists.proofs.Laid.{lay-end}
-use Rattle.mode.specs.Nonce.{format}
+use Rattle.mode.specs.Nonce.{tagPart, format}
+use Rattle.mode.proofs.Format.{zeros-plus}
 
-zeros-split : (a b : ℕ) → zeros a ++ zeros b ≡ zeros (a + b)
+-- the tag byte stored into zeros
+pub tag-stored : (t : ℕ) (b : List ℕ) → b ≡ zeros 16 → set b 0 (2 * (8 * t % 128)) ≡ tagPart t
 unfolding zeros
-zeros-split a b = replicate-append-replicate a b 0
+tag-stored t b e = ap (λ (l : List ℕ). set l 0 (2 * (8 * t % 128))) e
 
-pub formatted : (t : ℕ) (n : List ℕ) → 1 ≤ length n → length n ≤ 14
-    → lay (16 - length n) n (set (set (zeros 16) 0 (2 * (8 * t % 128))) (15 - length n) 1) ≡ format t n
-unfolding zeros format
-formatted t n least most =
-    ap (λ (j : ℕ). lay (16 - k) n (set (tag ∷ zeros 15) j 1)) behind
-    ∙ ap (λ (l : List ℕ). lay (16 - k) n (tag ∷ set l (14 - k) 1)) gap
-    ∙ ap (λ (l : List ℕ). lay (16 - k) n (tag ∷ l)) (set-at (zeros (14 - k)) 0 (zeros k) 1 (14 - k) (length-zeros (14 - k)))
-    ∙ ap (λ (l : List ℕ). lay (16 - k) n (tag ∷ l)) (sym (append-assoc (zeros (14 - k)) (1 ∷ []) (zeros k)))
-    ∙ lay-end (tag ∷ (zeros (14 - k) ++ (1 ∷ []))) (zeros k) n (16 - k) front (length-zeros k)
-    ∙ ap (λ (l : List ℕ). tag ∷ l) (append-assoc (zeros (14 - k)) (1 ∷ []) n)
-  where
-    k : ℕ
-    k = length n
+-- any byte of that and 1 is a byte
+zero-at : (m j : ℕ) → getD (zeros m) j 0 ≡ 0
+unfolding zeros
+zero-at zero j = refl
+zero-at (suc m) zero = refl
+zero-at (suc m) (suc j) = zero-at m j
 
-    tag : ℕ
-    tag = 2 * (8 * t % 128)
+one-more : (t j : ℕ) → getD (tagPart t) j 0 + 1 < 256
+one-more t zero = omega arith
+one-more t (suc j) = omega (arith, zero-at 15 j)
 
-    behind : 15 - k ≡ suc (14 - k)
-    behind = omega arith
+pub one-more-fits : (t j : ℕ) (b : List ℕ) → b ≡ zeros 16 → getD (set b 0 (2 * (8 * t % 128))) j 0 + 1 < 256
+one-more-fits t j b e = rw (tag-stored t b e) (one-more t j)
 
-    gap : zeros 15 ≡ zeros (14 - k) ++ (0 ∷ zeros k)
-    gap =
-        let all : 14 - k + suc k ≡ 15 = omega arith in
-        sym (zeros-split (14 - k) (suc k) ∙ ap zeros all)
+-- 1 added to byte j of h and zeros, and n laid over all behind it
+lay-cons : (x i : ℕ) (new out : List ℕ) → lay (suc i) new (x ∷ out) ≡ x ∷ lay i new out
+lay-cons x i new out = ap (λ (k : ℕ). x ∷ (take i out ++ (new ++ drop k (x ∷ out)))) (suc-add i (length new))
 
-    front : length (tag ∷ (zeros (14 - k) ++ (1 ∷ []))) ≡ 16 - k
-    front = omega (arith, length-append (zeros (14 - k)) (1 ∷ []), length-zeros (14 - k))
+added : (j m h : ℕ) (n : List ℕ) → j + length n ≡ m
+    → lay (suc j) n (set (h ∷ zeros m) j (getD (h ∷ zeros m) j 0 + 1)) ≡ zipWith _+_ (h ∷ zeros m) (zeros j ++ (1 ∷ n))
+unfolding zeros zipWith
+added zero m h n e =
+    lay-end ((h + 1) ∷ []) (zeros m) n 1 refl (omega (arith, length-zeros m))
+    ∙ ap (λ (l : List ℕ). (h + 1) ∷ l) (sym (zeros-plus m n (omega arith)))
+added (suc j) zero h n e = absurd (omega arith)
+added (suc j) (suc m) h n e =
+    lay-cons h (suc j) n (set (0 ∷ zeros m) j (getD (0 ∷ zeros m) j 0 + 1)) ∙ ap₂ _∷_ (sym (add-zero h)) (added j m 0 n (omega arith))
+
+pub formatted : (t : ℕ) (n : List ℕ) → length n ≤ 15
+    → lay (16 - length n) n (set (tagPart t) (15 - length n) (getD (tagPart t) (15 - length n) 0 + 1)) ≡ format t n
+unfolding format
+formatted t n most =
+    let j = 15 - length n in
+    let behind : 16 - length n ≡ suc j = omega arith in
+    ap (λ (i : ℕ). lay i n (set (tagPart t) j (getD (tagPart t) j 0 + 1))) behind
+    ∙ added j 15 (2 * (8 * t % 128)) n (omega arith)

@@ -24,7 +24,7 @@ mod tag;
 fn first_mask(table: &[u8; 256], w: &[u8; 240], nr: usize, t: usize, n: &[u8]) -> [u8; 16]
     requires { ⌜ now table ≡ sbox ⌝ }
     requires { ⌜ (0 < nr) × (nr ≤ 14) ⌝ }
-    requires { ⌜ (1 ≤ length (now n)) × ((length (now n) ≤ 14) × (t ≤ 16)) ⌝ }
+    requires { ⌜ (1 ≤ length (now n)) × ((length (now n) ≤ 15) × (t ≤ 16)) ⌝ }
     ensures { λ r. ⌜ r ≡ cipher nr (now (w .entry)) (format t (now (n .entry))) ⌝ }
 {
     aes::encrypt(table, w, nr, nonce::format(t, n))
@@ -43,7 +43,7 @@ pub fn seal(
 )
     requires { ⌜ now table ≡ sbox ⌝ }
     requires { ⌜ (0 < nr) × (nr ≤ 14) ⌝ }
-    requires { ⌜ (1 ≤ length (now n)) × ((length (now n) ≤ 14) × (t ≤ 16)) ⌝ }
+    requires { ⌜ (1 ≤ length (now n)) × ((length (now n) ≤ 15) × (t ≤ 16)) ⌝ }
     requires { ⌜ length (now m) + t ≤ length (now out) ⌝ }
     ensures { λ _. ⌜ now (out .exit) ≡ lay 0 (otr (cipher nr (now (w .entry))) (now (n .entry)) (now (a .entry)) t (now (m .entry))) (now (out .entry)) ⌝ }
 {
@@ -66,7 +66,7 @@ pub fn open(
 ) -> bool
     requires { ⌜ now table ≡ sbox ⌝ }
     requires { ⌜ (0 < nr) × (nr ≤ 14) ⌝ }
-    requires { ⌜ (1 ≤ length (now n)) × ((length (now n) ≤ 14) × (t ≤ 16)) ⌝ }
+    requires { ⌜ (1 ≤ length (now n)) × ((length (now n) ≤ 15) × (t ≤ 16)) ⌝ }
     requires { ⌜ (t ≤ length (now s)) × (length (now s) - t ≤ length (now out)) ⌝ }
     ensures { λ r. ⌜ r ≡ flag (opened (cipher nr (now (w .entry))) (third (cipher nr (now (w .entry)) (format t (now (n .entry))))) (ta (cipher nr (now (w .entry))) (now (a .entry))) t (now (s .entry))) ⌝ }
     ensures { λ _. ⌜ now (out .exit) ≡ shown (opened (cipher nr (now (w .entry))) (third (cipher nr (now (w .entry)) (format t (now (n .entry))))) (ta (cipher nr (now (w .entry))) (now (a .entry))) t (now (s .entry))) (length (now (s .entry)) - t) (now (out .entry)) ⌝ }

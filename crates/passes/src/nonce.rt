@@ -5,14 +5,15 @@ ghost use lib.ListN.{length};
 ghost use Rattle.mode.specs.Nonce.{format as formatOf};
 
 pub fn format(t: usize, nonce: &[u8]) -> [u8; 16]
-    requires { ⌜ (1 ≤ length (now nonce)) × (length (now nonce) ≤ 14) ⌝ }
+    requires { ⌜ (1 ≤ length (now nonce)) × (length (now nonce) ≤ 15) ⌝ }
     requires { ⌜ t ≤ 16 ⌝ }
     ensures { λ r. ⌜ r ≡ formatOf t (now (nonce .entry)) ⌝ }
 {
     let k = nonce.len();
+    let marker = 15 - k;
     let mut b = block::zeros();
     b[0] = (2 * (8 * t % 128)) as u8;
-    b[15 - k] = 1;
+    b[marker] = b[marker] + 1;
     lists::lay(&mut b, 16 - k, nonce);
     b
 }

@@ -1,7 +1,7 @@
 -- AES-OTR v3.1 with AES in the cipher's place, computed and held to what the second program gives. Each row is computed by itself,
 -- since both pass what antt computes in one declaration; `rows` is the one claim. Assumes nothing.
 use mathlib.Core.Path.{_≡_, refl, ap₂}
-use mathlib.Core.List.{List, _∷_, map}
+use mathlib.Core.List.{List, _∷_, map, zipWith}
 use Prim.Native.Nat.{ℕ, _+_, _*_, _%_}
 use lib.ListN.{getD}
 use Rattle.lists.specs.Hex.{bytes}
@@ -33,11 +33,11 @@ row-at : ℕ → Row
 row-at i = getD expected i (0, 0, 0, 0, 0, 0)
 
 row-0 : computed (row-at 0) ≡ given (row-at 0)
-unfolding row-at computed given tableFrom xor zeros product inverse affine substitute addRoundKey round lastRound rounds cipher power temp next words keyExpansion aes pad shift double doubles blocks pairsOf even short sum pairs body checksum te dataSum ta format tag sealed
+unfolding row-at computed given tableFrom xor zeros product inverse affine substitute addRoundKey round lastRound rounds cipher power temp next words keyExpansion aes pad shift double doubles blocks pairsOf even short sum pairs body checksum te dataSum ta zipWith format tag sealed
 row-0 = refl
 
 row-1 : computed (row-at 1) ≡ given (row-at 1)
-unfolding row-at computed given tableFrom xor zeros product inverse affine substitute addRoundKey round lastRound rounds cipher power temp next words keyExpansion aes pad shift double doubles blocks pairsOf even short sum pairs body checksum te dataSum ta format tag sealed
+unfolding row-at computed given tableFrom xor zeros product inverse affine substitute addRoundKey round lastRound rounds cipher power temp next words keyExpansion aes pad shift double doubles blocks pairsOf even short sum pairs body checksum te dataSum ta zipWith format tag sealed
 row-1 = refl
 
 pub rows : map computed expected ≡ map given expected

@@ -1,6 +1,6 @@
 -- The small rows of document 01, W1 to W12, computed from the definitions. Assumes nothing.
 use mathlib.Core.Path.{_≡_, refl}
-use mathlib.Core.List.{List, [], _∷_}
+use mathlib.Core.List.{List, [], _∷_, zipWith}
 use Prim.Native.Nat.{ℕ}
 use Rattle.lists.specs.Hex.{bytes}
 use Rattle.lists.specs.Xor.{xor}
@@ -43,5 +43,5 @@ rows =
     ∷ []
 
 pub w1-to-w12 : computed ≡ rows
-unfolding xor zeros product inverse affine substitute pad shift double format
+unfolding xor zeros product inverse affine substitute pad shift double zipWith format
 w1-to-w12 = refl

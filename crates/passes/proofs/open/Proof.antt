@@ -20,7 +20,8 @@ use Rattle.mode.specs.Nonce.{format}
 use Rattle.mode.specs.Opening.{Opened}
 use Rattle.mode.specs.Undoing.{unbody, answer, opened}
 use Rattle.mode.proofs.Walk.{length-unbody}
-use Rattle.mode.proofs.Third.{third-masks, length-format}
+use Rattle.mode.proofs.Format.{length-format}
+use Rattle.mode.proofs.Third.{third-masks}
 use Rattle.passes.specs.Shown.{shown, flag}
 use Rattle.passes.proofs.Cipher.{is-cipher}
 use Rattle.passes.proofs.Sealed.{opened-by}

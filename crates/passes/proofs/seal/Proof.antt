@@ -12,7 +12,8 @@ use Rattle.mode.specs.Masks.{third}
 use Rattle.mode.specs.Message.{body, te}
 use Rattle.mode.specs.Data.{ta}
 use Rattle.mode.specs.Nonce.{format}
-use Rattle.mode.proofs.Third.{third-masks, length-format, length-ta}
+use Rattle.mode.proofs.Format.{length-format}
+use Rattle.mode.proofs.Third.{third-masks, length-ta}
 use Rattle.passes.proofs.Cipher.{is-cipher}
 use Rattle.passes.proofs.Sealed.{tagged}
 use borrow.Author.Needs.{needs}

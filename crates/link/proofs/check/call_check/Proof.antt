@@ -16,18 +16,22 @@ returns c =
     let k = at-size .before .args .key in
     sym (rw (unknown-size k (sym (at-size .key-size .ensures) ∙ c .enum-told2 .given .1)))
 
--- the tests that have passed on the way to each answer
+-- the tests that have passed on the way to each answer; a range is written out, so that another one is refused by its number
 known : (c : tie.After-enum-told)
     → (eqb (c .before .before .before .args .key) 16 || (eqb (c .before .before .before .args .key) 24 || eqb (c .before .before .before .args .key) 32)) ≡ true
 known c =
     let told = c .enum-told .given in
     known-size (c .before .before .before .args .key) (told .0 .0) (told .0 .1 .0) (sym (c .before .before .key-size .ensures) ∙ told .1)
 
-nonce-in : (c : tie.Else1) → from-to 1 14 (c .before .before .before .before .before .args .nonce) ≡ true
-nonce-in c = sym (c .before .from-to .ensures) ∙ not-false (c .before .from-to .result) (c .if1 .left)
+nonce-in : (c : tie.Else1) → from-to 1 15 (c .before .before .before .before .before .args .nonce) ≡ true
+nonce-in c =
+    let is : c .before .from-to .result ≡ from-to 1 15 (c .before .before .before .before .before .args .nonce) = c .before .from-to .ensures in
+    sym is ∙ not-false (c .before .from-to .result) (c .if1 .left)
 
 tag-in : (c : tie.Else2) → from-to 4 16 (c .before .before .before .before .before .before .before .args .tag) ≡ true
-tag-in c = sym (c .before .from-to2 .ensures) ∙ not-false (c .before .from-to2 .result) (c .if2 .left)
+tag-in c =
+    let is : c .before .from-to2 .result ≡ from-to 4 16 (c .before .before .before .before .before .before .before .args .tag) = c .before .from-to2 .ensures in
+    sym is ∙ not-false (c .before .from-to2 .result) (c .if2 .left)
 
 returns-2 : tie.Need-returns-2
 unfolding callCheck

@@ -1,14 +1,17 @@
 -- `passes::nonce::format` meets its contract. Assumes nothing.
 use mathlib.Core.Path.{_≡_, ap, _∙_}
 use mathlib.Core.List.{List}
-use Prim.Native.Nat.{ℕ, _-_, _*_, _%_}
+use Prim.Native.Nat.{ℕ, _+_, _-_, _*_, _%_}
 use native.Mathlib.Omega.{arith}
-use lib.ListN.{length, set, length-set}
+use lib.ListN.{length, getD, set, length-set}
 use Rattle.lists.specs.Lay.{lay}
-use Rattle.passes.proofs.Formatted.{formatted}
+use Rattle.passes.proofs.Formatted.{tag-stored, one-more-fits, formatted}
 use borrow.Author.Needs.{needs}
 use Rattle.passes.proofs.nonce.format.Statement.{statement}
 use Rattle.passes.proofs.nonce.format.Tie as tie
+
+add-b : tie.Need-add-b
+add-b c = record { fits = one-more-fits (c .before .before .args .t) _ (c .zeros .result) (c .zeros .ensures) }
 
 lay-requires : tie.Need-lay-requires
 lay-requires c κs =
@@ -19,11 +22,15 @@ returns : tie.Need-returns
 returns c =
     let at-zeros = c .before .before .before in
     let start = at-zeros .before .before in
+    let t = start .args .t in
     let n = start .args .nonce .now in
-    c .before .lay .ensures
-    ∙ ap (λ (b : List ℕ). lay (16 - length n) n (set (set b 0 (2 * (8 * start .args .t % 128))) (15 - length n) 1)) (at-zeros .zeros .ensures)
-    ∙ formatted (start .args .t) n (start .pre .0 .0) (start .pre .0 .1)
+    let j = 15 - length n in
+    let b = set (at-zeros .zeros .result) 0 (2 * (8 * t % 128)) in
+    let laid : c .before .lay .last .0 ≡ lay (16 - length n) n (set b j (getD b j 0 + 1)) = c .before .lay .ensures in
+    laid
+    ∙ ap (λ (l : List ℕ). lay (16 - length n) n (set l j (getD l j 0 + 1))) (tag-stored t (at-zeros .zeros .result) (at-zeros .zeros .ensures))
+    ∙ formatted t n (start .pre .0 .1)
 
 pub format-spec : {M : Type 1} → statement M
 format-spec =
-    tie.close (tie.spec (λ c κs. search needs) (λ c. search needs) (λ c. search needs) (λ c. search needs) (λ c. search needs) (λ c. search needs) (λ c. search needs) (λ c. search needs) (λ c. search needs) lay-requires returns)
+    tie.close (tie.spec (λ c. search needs) (λ c κs. search needs) (λ c. search needs) (λ c. search needs) (λ c. search needs) (λ c. search needs) (λ c. search needs) add-b (λ c. search needs) (λ c. search needs) (λ c. search needs) lay-requires returns)
