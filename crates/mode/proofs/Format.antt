@@ -28,7 +28,7 @@ unfolding zeros
 first-bit zero n = omega arith
 first-bit (suc j) n = omega arith
 
--- ---- so the tag byte, which is even, takes it as its last bit, and the other bytes are the nonce part's
+-- ---- the sum: the tag byte, which is even, takes that one as its last bit, and the other bytes are the nonce part's
 with-tag : (h : ℕ) (l : List ℕ) → length l ≡ 16 → zipWith _+_ (h ∷ zeros 15) l ≡ (h + getD l 0 0) ∷ drop 1 l
 unfolding zipWith
 with-tag h [] e = absurd (omega arith)

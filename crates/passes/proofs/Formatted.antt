@@ -18,7 +18,7 @@ pub tag-stored : (t : ℕ) (b : List ℕ) → b ≡ zeros 16 → set b 0 (2 * (8
 unfolding zeros
 tag-stored t b e = ap (λ (l : List ℕ). set l 0 (2 * (8 * t % 128))) e
 
--- any byte of that and 1 is a byte
+-- 1 more than any byte of that is still a byte
 zero-at : (m j : ℕ) → getD (zeros m) j 0 ≡ 0
 unfolding zeros
 zero-at zero j = refl
