@@ -1,4 +1,4 @@
-//! The command `tour`: a session with the console that shows each answer once, and what it
+//! The command `tour`: a session with the console that shows each answer, and what it
 //! must print.
 
 use crate::call::DATA_MAX;

@@ -33,6 +33,7 @@ use Rattle.link.specs.Promises.{Seals, Opens}
 use Rattle.link.specs.declared.answer.Answer.{Answer}
 use Rattle.link.proofs.Entries.{aes-cipher}
 use Rattle.demands.specs.Calls.{Limits}
+use Rattle.demands.proofs.Demand1.{sealing-answers}
 use Rattle.demands.proofs.Demand2.{is-sealed, round-trip}
 use Rattle.demands.proofs.Demand3.{opening}
 
@@ -242,6 +243,12 @@ pub refuses-opening-15 : (r : Answer) (after : List ℕ) → numberOf r ≡ 2
     → Opens key nonce15 [] (otr (aes key) nonce15 [] 15 (one 0)) 15 small r after → ⊥
 refuses-opening-15 r after h p =
     let z : numberOf r ≡ 0 = ap numberOf (round-trip key nonce15 [] (one 0) 15 limits-15 (omega arith) small (omega arith) r after p .0) in
+    omega arith
+
+-- takes one of 16 bytes
+pub takes-16 : (r : Answer) (after : List ℕ) → numberOf r ≡ 0 → Seals key (bytes 16 0) [] (one 0) 16 room r after → ⊥
+takes-16 r after h p =
+    let z : numberOf r ≡ 2 = sealing-answers key (bytes 16 0) [] (one 0) 16 room r after p .0 in
     omega arith
 
 -- lays the marker over the tag byte, so that the nonce block is 01 and the nonce
