@@ -185,12 +185,16 @@ u-long : length u ≡ 16
 unfolding u
 u-long = aes-cipher key (format 16 nonce) (length-format 16 nonce (omega arith))
 
+-- the first byte that a message of one byte 0 seals to, from the nonce block b
+first-from : (b : List ℕ) (t : ℕ) → length b ≡ 16
+    → getD (sealed (aes key) (third (aes key b)) (ta (aes key) []) t (one 0)) 0 0 ≡ bitXor 0 (getD (aes key (aes key b)) 0 0)
+unfolding blocks pairsOf even doubles
+first-from b t h = byte-behind (aes key) (aes-cipher key) (aes key b) (ta (aes key) []) (one 0) t (aes-cipher key b h) refl (omega arith)
+
 -- ---- copies the plaintext through, or is done and writes nothing: the first byte would still be 0
 first-byte : getD (s 0) 0 0 ≡ 0xe0
-unfolding s u blocks pairsOf even doubles
-first-byte =
-    byte-behind (aes key) (aes-cipher key) u (ta (aes key) []) (one 0) 16 u-long refl (omega arith)
-    ∙ ap (bitXor 0) first-mask
+unfolding s u
+first-byte = first-from (format 16 nonce) 16 (length-format 16 nonce (omega arith)) ∙ ap (bitXor 0) first-mask
 
 pub copies-through : (r : Answer) (after : List ℕ) → getD after 0 0 ≡ 0 → Seals key nonce [] (one 0) 16 room r after → ⊥
 copies-through r after h p =
@@ -235,7 +239,7 @@ sealed-15 : (r : Answer) (after : List ℕ) → Seals key nonce15 [] (one 0) 15 
     → (numberOf r ≡ 0) × (after ≡ otr (aes key) nonce15 [] 15 (one 0))
 sealed-15 = all-sealed nonce15 (one 0) 15 room16 limits-15 (omega arith) refl
 
--- refuses it, as all did before document 02's wish 5
+-- refused, as before document 02's wish 5
 pub refuses-sealing-15 : (r : Answer) (after : List ℕ) → numberOf r ≡ 2 → Seals key nonce15 [] (one 0) 15 room16 r after → ⊥
 refuses-sealing-15 r after h p = let z = sealed-15 r after p .0 in omega arith
 
@@ -243,12 +247,6 @@ pub refuses-opening-15 : (r : Answer) (after : List ℕ) → numberOf r ≡ 2
     → Opens key nonce15 [] (otr (aes key) nonce15 [] 15 (one 0)) 15 small r after → ⊥
 refuses-opening-15 r after h p =
     let z : numberOf r ≡ 0 = ap numberOf (round-trip key nonce15 [] (one 0) 15 limits-15 (omega arith) small (omega arith) r after p .0) in
-    omega arith
-
--- takes one of 16 bytes
-pub takes-16 : (r : Answer) (after : List ℕ) → numberOf r ≡ 0 → Seals key (bytes 16 0) [] (one 0) 16 room r after → ⊥
-takes-16 r after h p =
-    let z : numberOf r ≡ 2 = sealing-answers key (bytes 16 0) [] (one 0) 16 room r after p .0 in
     omega arith
 
 -- lays the marker over the tag byte, so that the nonce block is 01 and the nonce
@@ -260,18 +258,18 @@ first-mask-laid : getD (aes key (aes key (1 ∷ nonce15))) 0 0 ≡ 0x83
 unfolding xor product inverse affine substitute addRoundKey round lastRound rounds cipher power temp next words keyExpansion aes
 first-mask-laid = refl
 
-first-byte-15 : (b : List ℕ) → length b ≡ 16
-    → getD (sealed (aes key) (third (aes key b)) (ta (aes key) []) 15 (one 0)) 0 0 ≡ bitXor 0 (getD (aes key (aes key b)) 0 0)
-unfolding blocks pairsOf even doubles
-first-byte-15 b h =
-    byte-behind (aes key) (aes-cipher key) (aes key b) (ta (aes key) []) (one 0) 15 (aes-cipher key b h) refl (omega arith)
-
 pub marker-laid-over : (r : Answer)
     → Seals key nonce15 [] (one 0) 15 room16 r (sealed (aes key) (third (aes key (1 ∷ nonce15))) (ta (aes key) []) 15 (one 0)) → ⊥
 marker-laid-over r p = let z : _≡_ {A = ℕ} 0x83 0x99 = sym laid ∙ ap (λ (l : List ℕ). getD l 0 0) (sealed-15 r _ p .1) ∙ added in omega arith
   where
     laid : getD (sealed (aes key) (third (aes key (1 ∷ nonce15))) (ta (aes key) []) 15 (one 0)) 0 0 ≡ 0x83
-    laid = first-byte-15 (1 ∷ nonce15) refl ∙ ap (bitXor 0) first-mask-laid
+    laid = first-from (1 ∷ nonce15) 15 refl ∙ ap (bitXor 0) first-mask-laid
 
     added : getD (otr (aes key) nonce15 [] 15 (one 0)) 0 0 ≡ 0x99
-    added = first-byte-15 (format 15 nonce15) (length-format 15 nonce15 (omega arith)) ∙ ap (bitXor 0) first-mask-15
+    added = first-from (format 15 nonce15) 15 (length-format 15 nonce15 (omega arith)) ∙ ap (bitXor 0) first-mask-15
+
+-- ---- takes a nonce of 16 bytes
+pub takes-16 : (r : Answer) (after : List ℕ) → numberOf r ≡ 0 → Seals key (bytes 16 0) [] (one 0) 16 room r after → ⊥
+takes-16 r after h p =
+    let z : numberOf r ≡ 2 = sealing-answers key (bytes 16 0) [] (one 0) 16 room r after p .0 in
+    omega arith
