@@ -3,10 +3,9 @@ use mathlib.Core.Path.{_≡_, ap₂, _∙_}
 use mathlib.Core.Bool.{true, _&&_, _||_}
 use mathlib.Core.Logic.{_⊎_, inl, inr}
 use Prim.Native.Nat.{ℕ, _+_, _-_, _≤_}
-use lib.Dec.{eqb, leb}
+use lib.Dec.{eqb}
 use borrow.Author.Tests.{le-leb}
-use Rattle.link.specs.Checks.{Check, pass, from-to, unless, callCheck, sealCheck, openCheck}
-use Rattle.link.specs.declared.answer.Answer.the-variants.{Length, Room}
+use Rattle.link.specs.Checks.{Check, pass, from-to, callCheck, sealNext, sealCheck, openNext, openCheck}
 use Rattle.demands.specs.Calls.{Limits}
 
 known : (k : ℕ) → (k ≡ 16) ⊎ ((k ≡ 24) ⊎ (k ≡ 32)) → (eqb k 16 || (eqb k 24 || eqb k 32)) ≡ true
@@ -26,10 +25,9 @@ module _ (key nonce t ad : ℕ) where
   pub seal-passes : (m o : ℕ) → Limits key nonce t ad → m ≤ 16384 → m + t ≤ o → sealCheck key nonce t ad m o ≡ pass (m + t)
   unfolding sealCheck
   seal-passes m o f p q =
-      call-passes (unless (leb m 16384) Length (unless (leb (m + t) o) Room (pass (m + t)))) f ∙ rw (le-leb m 16384 p, le-leb (m + t) o q)
+      call-passes (sealNext t m o) f ∙ rw (le-leb m 16384 p, le-leb (m + t) o q)
 
   pub open-passes : (s o : ℕ) → Limits key nonce t ad → t ≤ s → s ≤ 16384 + t → s - t ≤ o → openCheck key nonce t ad s o ≡ pass (s - t)
   unfolding openCheck
   open-passes s o f p q r =
-      call-passes (unless (from-to t (16384 + t) s) Length (unless (leb (s - t) o) Room (pass (s - t)))) f
-      ∙ rw (range t (16384 + t) s p q, le-leb (s - t) o r)
+      call-passes (openNext t s o) f ∙ rw (range t (16384 + t) s p q, le-leb (s - t) o r)

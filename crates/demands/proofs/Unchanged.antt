@@ -3,7 +3,7 @@
 use mathlib.Core.Path.{_≡_, sym, ap, ap₂, _∙_}
 use mathlib.Core.Bool.{Bool, _&&_, _||_}
 use mathlib.Core.List.{List}
-use Prim.Native.Nat.{ℕ, _+_, _-_, _≤_}
+use Prim.Native.Nat.{ℕ, _≤_}
 use native.Mathlib.Omega.{arith}
 use lib.Dec.{eqb, leb}
 use lib.ListN.{length}
@@ -13,12 +13,12 @@ use Rattle.mode.specs.Masks.{third}
 use Rattle.mode.specs.Data.{ta}
 use Rattle.mode.specs.Sealing.{sealed, otr}
 use Rattle.mode.proofs.Format.{formatWas, as-it-was}
-use Rattle.link.specs.Checks.{Check, pass, from-to, unless, callCheck, sealCheck, openCheck}
+use Rattle.link.specs.Checks.{Check, from-to, unless, callCheck, sealNext, sealCheck, openNext, openCheck}
 use Rattle.link.specs.Promises.{SealsBy, Seals, OpensBy, Opens}
 use Rattle.link.specs.declared.answer.Answer.{Answer}
-use Rattle.link.specs.declared.answer.Answer.the-variants.{Key, Nonce, Tag, Data, Length, Room}
+use Rattle.link.specs.declared.answer.Answer.the-variants.{Key, Nonce, Tag, Data}
 
--- ---- what was: what a message seals to, from the nonce block as it was; and the checks
+-- ---- what was: what a message seals to, from the nonce block as it was; and checks 1 to 4
 abbrev pub otrWas : (List ℕ → List ℕ) → List ℕ → List ℕ → ℕ → List ℕ → List ℕ
 otrWas E nonce ad t m = sealed E (third (E (formatWas t nonce))) (ta E ad) t m
 
@@ -28,14 +28,6 @@ callCheckWas key nonce t ad next =
     (unless (from-to 1 14 nonce) Nonce
     (unless (from-to 4 16 t) Tag
     (unless (leb ad 4096) Data next)))
-
-abbrev pub sealCheckWas : ℕ → ℕ → ℕ → ℕ → ℕ → ℕ → Check
-sealCheckWas key nonce t ad m o =
-    callCheckWas key nonce t ad (unless (leb m 16384) Length (unless (leb (m + t) o) Room (pass (m + t))))
-
-abbrev pub openCheckWas : ℕ → ℕ → ℕ → ℕ → ℕ → ℕ → Check
-openCheckWas key nonce t ad s o =
-    callCheckWas key nonce t ad (unless (from-to t (16384 + t) s) Length (unless (leb (s - t) o) Room (pass (s - t))))
 
 -- ---- what is, for at most 14 bytes
 range-is : (nonce : ℕ) → nonce ≤ 14 → from-to 1 15 nonce ≡ from-to 1 14 nonce
@@ -52,16 +44,16 @@ module _ (nonce : List ℕ) (h : length nonce ≤ 14) where
   module _ (key ad : List ℕ) (t : ℕ) (out : List ℕ) (r : Answer) (after : List ℕ) where
     pub seals-unchanged : (m : List ℕ)
         → Seals key nonce ad m t out r after
-        ≡ SealsBy (sealCheckWas (length key) (length nonce) t (length ad) (length m) (length out)) (otrWas (aes key) nonce ad t m) out r after
+        ≡ SealsBy (callCheckWas (length key) (length nonce) t (length ad) (sealNext t (length m) (length out))) (otrWas (aes key) nonce ad t m) out r after
     unfolding Seals sealCheck
     seals-unchanged m =
         ap₂ (λ (c : Check) (seal : List ℕ → List ℕ). SealsBy c (seal m) out r after)
-        (check-is (length key) (length nonce) t (length ad) _ h) (otr-is (aes key) ad t)
+        (check-is (length key) (length nonce) t (length ad) (sealNext t (length m) (length out)) h) (otr-is (aes key) ad t)
 
     pub opens-unchanged : (s : List ℕ)
         → Opens key nonce ad s t out r after
-        ≡ OpensBy (openCheckWas (length key) (length nonce) t (length ad) (length s) (length out)) (otrWas (aes key) nonce ad t) s out r after
+        ≡ OpensBy (callCheckWas (length key) (length nonce) t (length ad) (openNext t (length s) (length out))) (otrWas (aes key) nonce ad t) s out r after
     unfolding Opens openCheck
     opens-unchanged s =
         ap₂ (λ (c : Check) (seal : List ℕ → List ℕ). OpensBy c seal s out r after)
-        (check-is (length key) (length nonce) t (length ad) _ h) (otr-is (aes key) ad t)
+        (check-is (length key) (length nonce) t (length ad) (openNext t (length s) (length out)) h) (otr-is (aes key) ad t)

@@ -81,7 +81,7 @@ all-sealed nonce m t room f short exact r after p =
     let long = length-otr (aes key) (aes-cipher key) nonce [] t (f .nonces .1) (f .tags .1) m in
     (ap numberOf (q .0), q .1 ∙ lay-whole (otr (aes key) nonce [] t m) room (omega (arith, long)))
 
--- one of 17 bytes the sealed byte, and one of one byte the message again
+-- so 17 bytes hold the sealed byte afterwards; and one byte, after opening that, the message again
 sealed-one : (x : ℕ) (r : Answer) (after : List ℕ) → Seals key nonce [] (one x) 16 room r after → (numberOf r ≡ 0) × (after ≡ s x)
 unfolding s
 sealed-one x = all-sealed nonce (one x) 16 room limits (omega arith) refl
@@ -239,15 +239,14 @@ sealed-15 : (r : Answer) (after : List ℕ) → Seals key nonce15 [] (one 0) 15 
     → (numberOf r ≡ 0) × (after ≡ otr (aes key) nonce15 [] 15 (one 0))
 sealed-15 = all-sealed nonce15 (one 0) 15 room16 limits-15 (omega arith) refl
 
--- refused, as before document 02's wish 5
-pub refuses-sealing-15 : (r : Answer) (after : List ℕ) → numberOf r ≡ 2 → Seals key nonce15 [] (one 0) 15 room16 r after → ⊥
-refuses-sealing-15 r after h p = let z = sealed-15 r after p .0 in omega arith
+-- refuses it, as before document 02's wish 5
+pub refuses-sealing-15 : (r : Answer) (after : List ℕ) → (numberOf r ≡ 0 → ⊥) → Seals key nonce15 [] (one 0) 15 room16 r after → ⊥
+refuses-sealing-15 r after z p = z (sealed-15 r after p .0)
 
-pub refuses-opening-15 : (r : Answer) (after : List ℕ) → numberOf r ≡ 2
+pub refuses-opening-15 : (r : Answer) (after : List ℕ) → (numberOf r ≡ 0 → ⊥)
     → Opens key nonce15 [] (otr (aes key) nonce15 [] 15 (one 0)) 15 small r after → ⊥
-refuses-opening-15 r after h p =
-    let z : numberOf r ≡ 0 = ap numberOf (round-trip key nonce15 [] (one 0) 15 limits-15 (omega arith) small (omega arith) r after p .0) in
-    omega arith
+refuses-opening-15 r after z p =
+    z (ap numberOf (round-trip key nonce15 [] (one 0) 15 limits-15 (omega arith) small (omega arith) r after p .0))
 
 -- lays the marker over the tag byte, so that the nonce block is 01 and the nonce
 first-mask-15 : getD (aes key (aes key (format 15 nonce15))) 0 0 ≡ 0x99

@@ -14,7 +14,7 @@ firstFailing i [] = 0
 firstFailing i (true ∷ checks) = firstFailing (suc i) checks
 firstFailing i (false ∷ checks) = i
 
--- document 01's checks 1 to 6, for sealing a message and for opening sealed bytes
+-- document 01's checks 1 to 6 (check 2 as document 02's wish 5 has it), for sealing a message and for opening sealed bytes
 abbrev pub sealChecks : List ℕ → List ℕ → List ℕ → List ℕ → ℕ → List ℕ → List Bool
 sealChecks key nonce ad m t out =
     (eqb (length key) 16 || (eqb (length key) 24 || eqb (length key) 32))
@@ -35,7 +35,7 @@ openChecks key nonce ad s t out =
     ∷ leb (length s - t) (length out)
     ∷ []
 
--- the limits of document 01 on the lengths of key, nonce, tag and associated data
+-- the limits on the lengths of key, nonce, tag and associated data (document 01; document 02, wish 5)
 pub record Limits (key nonce t ad : ℕ) : Type 0 where
   pub keys : (key ≡ 16) ⊎ ((key ≡ 24) ⊎ (key ≡ 32))
   pub nonces : (1 ≤ nonce) × (nonce ≤ 15)

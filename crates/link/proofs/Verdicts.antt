@@ -7,7 +7,7 @@ use native.Mathlib.Omega.{arith}
 use lib.Dec.{eqb, leb}
 use borrow.Author.Tests.{leb-true}
 use Rattle.link.specs.Answers.{numberOf}
-use Rattle.link.specs.Checks.{Check, pass, stop, from-to, unless, callCheck, sealCheck, openCheck, asAnswer}
+use Rattle.link.specs.Checks.{Check, pass, stop, from-to, unless, callCheck, sealNext, sealCheck, openNext, openCheck, asAnswer}
 use Rattle.link.specs.declared.answer.Answer.{Answer}
 use Rattle.link.specs.declared.answer.Answer.the-variants.{Key, Nonce, Tag, Data, Length, Room}
 
@@ -72,7 +72,7 @@ module _ (key nonce t ad : ℕ) where
       → Verdict (Called key nonce t ad × (m ≤ 16384) × (m + t ≤ o)) (m + t) (sealCheck key nonce t ad m o)
   unfolding sealCheck
   seal-verdict m o =
-      after (Called key nonce t ad × (m ≤ 16384) × (m + t ≤ o)) (m + t) (unless (leb m 16384) Length (unless (leb (m + t) o) Room (pass (m + t)))) λ h.
+      after (Called key nonce t ad × (m ≤ 16384) × (m + t ≤ o)) (m + t) (sealNext t m o) λ h.
       checked (leb m 16384) Length (λ z. omega arith) λ l.
       checked (leb (m + t) o) Room (λ z. omega arith) λ r.
       passes (h, leb-true m 16384 l, leb-true (m + t) o r) refl
@@ -81,8 +81,7 @@ module _ (key nonce t ad : ℕ) where
       → Verdict (Called key nonce t ad × (t ≤ s) × (s ≤ 16384 + t) × (s - t ≤ o)) (s - t) (openCheck key nonce t ad s o)
   unfolding openCheck
   open-verdict s o =
-      after (Called key nonce t ad × (t ≤ s) × (s ≤ 16384 + t) × (s - t ≤ o)) (s - t)
-      (unless (from-to t (16384 + t) s) Length (unless (leb (s - t) o) Room (pass (s - t)))) λ h.
+      after (Called key nonce t ad × (t ≤ s) × (s ≤ 16384 + t) × (s - t ≤ o)) (s - t) (openNext t s o) λ h.
       checked (from-to t (16384 + t) s) Length (λ z. omega arith) λ l.
       checked (leb (s - t) o) Room (λ z. omega arith) λ r.
       passes (h, within t (16384 + t) s l .0, within t (16384 + t) s l .1, leb-true (s - t) o r) refl

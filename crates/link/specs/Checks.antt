@@ -1,5 +1,6 @@
--- Document 01, 'Numbers a call may carry' and 'What comes back': the checks 1 to 6, in the order of their numbers. Each goes by
--- lengths alone: of the key, the nonce, the tag, the associated data, the message or the sealed bytes, and the output.
+-- Document 01, 'Numbers a call may carry' and 'What comes back', with nonces of 1 to 15 bytes (document 02, wish 5): the checks 1 to
+-- 6, in the order of their numbers. Each goes by lengths alone: of the key, the nonce, the tag, the associated data, the message or the
+-- sealed bytes, and the output.
 use mathlib.Core.Bool.{Bool, true, false, _&&_, _||_}
 use Prim.Native.Nat.{ℕ, _+_, _-_}
 use lib.Dec.{eqb, leb}
@@ -27,15 +28,19 @@ callCheck key nonce t ad next =
     (unless (from-to 4 16 t) Tag
     (unless (leb ad 4096) Data next)))
 
--- sealing a message of m bytes into o bytes
-unfoldable pub sealCheck : ℕ → ℕ → ℕ → ℕ → ℕ → ℕ → Check
-sealCheck key nonce t ad m o =
-    callCheck key nonce t ad (unless (leb m 16384) Length (unless (leb (m + t) o) Room (pass (m + t))))
+-- sealing a message of m bytes into o bytes: checks 5 and 6, and all six
+abbrev pub sealNext : ℕ → ℕ → ℕ → Check
+sealNext t m o = unless (leb m 16384) Length (unless (leb (m + t) o) Room (pass (m + t)))
 
--- opening s sealed bytes into o bytes
+unfoldable pub sealCheck : ℕ → ℕ → ℕ → ℕ → ℕ → ℕ → Check
+sealCheck key nonce t ad m o = callCheck key nonce t ad (sealNext t m o)
+
+-- opening s sealed bytes into o bytes: checks 5 and 6, and all six
+abbrev pub openNext : ℕ → ℕ → ℕ → Check
+openNext t s o = unless (from-to t (16384 + t) s) Length (unless (leb (s - t) o) Room (pass (s - t)))
+
 unfoldable pub openCheck : ℕ → ℕ → ℕ → ℕ → ℕ → ℕ → Check
-openCheck key nonce t ad s o =
-    callCheck key nonce t ad (unless (from-to t (16384 + t) s) Length (unless (leb (s - t) o) Room (pass (s - t))))
+openCheck key nonce t ad s o = callCheck key nonce t ad (openNext t s o)
 
 -- a check as an answer
 abbrev pub asAnswer : Check → Answer

@@ -9,7 +9,7 @@ use lib.ListN.{length, getD, drop, length-append, length-drop, replicate-append-
 use lib.Seq.{drop-cons}
 use Rattle.lists.specs.Zeros.{zeros}
 use Rattle.lists.proofs.Zeros.{length-zeros}
-use Rattle.mode.specs.Nonce.{tagPart, noncePart, format}
+use Rattle.mode.specs.Nonce.{tagByte, noncePart, format}
 
 -- adding zeros changes nothing
 pub zeros-plus : (m : ℕ) (r : List ℕ) → length r ≤ m → zipWith _+_ (zeros m) r ≡ r
@@ -35,24 +35,24 @@ with-tag h [] e = absurd (omega arith)
 with-tag h (x ∷ l) e = ap (λ (r : List ℕ). (h + x) ∷ r) (zeros-plus 15 l (omega arith))
 
 module _ (t : ℕ) (n : List ℕ) (most : length n ≤ 15) where
-  pub by-parts : format t n ≡ (2 * (8 * t % 128) + getD (noncePart n) 0 0) ∷ drop 1 (noncePart n)
+  pub by-parts : format t n ≡ (tagByte t + getD (noncePart n) 0 0) ∷ drop 1 (noncePart n)
   unfolding format
-  by-parts = with-tag (2 * (8 * t % 128)) (noncePart n) (length-noncePart n most)
+  by-parts = with-tag (tagByte t) (noncePart n) (length-noncePart n most)
 
   pub length-format : length (format t n) ≡ 16
   length-format = ap length by-parts ∙ omega (arith, length-drop 1 (noncePart n), length-noncePart n most)
 
 -- ---- what document 01 laid down for 1 to 14 bytes: the tag byte; zeros; 01; the nonce
 abbrev pub formatWas : ℕ → List ℕ → List ℕ
-formatWas t n = (2 * (8 * t % 128)) ∷ (zeros (14 - length n) ++ (1 ∷ n))
+formatWas t n = tagByte t ∷ (zeros (14 - length n) ++ (1 ∷ n))
 
 pub as-it-was : (t : ℕ) (n : List ℕ) → length n ≤ 14 → format t n ≡ formatWas t n
 unfolding zeros
 as-it-was t n h =
     let behind : 15 - length n ≡ suc (14 - length n) = omega arith in
     by-parts t n (omega arith)
-    ∙ ap (λ (j : ℕ). (2 * (8 * t % 128) + getD (zeros j ++ (1 ∷ n)) 0 0) ∷ drop 1 (zeros j ++ (1 ∷ n))) behind
-    ∙ ap (λ (b : ℕ). b ∷ (zeros (14 - length n) ++ (1 ∷ n))) (add-zero (2 * (8 * t % 128)))
+    ∙ ap (λ (j : ℕ). (tagByte t + getD (zeros j ++ (1 ∷ n)) 0 0) ∷ drop 1 (zeros j ++ (1 ∷ n))) behind
+    ∙ ap (λ (b : ℕ). b ∷ (zeros (14 - length n) ++ (1 ∷ n))) (add-zero (tagByte t))
 
 -- ---- bytes: beyond its end a list has 0 for `getD`
 abbrev pub Bytes : List ℕ → Type 0
@@ -73,7 +73,7 @@ tail-bytes x (y ∷ l) hx h (suc i) = h (suc i)
 pub bytes-format : (t : ℕ) (n : List ℕ) → length n ≤ 15 → Bytes n → Bytes (format t n)
 bytes-format t n most h i =
     rw (by-parts t n most)
-    (tail-bytes (2 * (8 * t % 128) + getD (noncePart n) 0 0) (noncePart n) (omega (arith, first-bit (15 - length n) n))
+    (tail-bytes (tagByte t + getD (noncePart n) 0 0) (noncePart n) (omega (arith, first-bit (15 - length n) n))
     (marked-bytes (15 - length n) n h) i)
 
 -- ---- one nonce block, one tag length and one nonce: the first 1 behind the zeros shows where the nonce begins
@@ -88,11 +88,11 @@ eighth : (t : ℕ) → 8 * t % 128 ≡ 8 * (t % 16)
 eighth t = omega arith
 
 module _ (t t′ : ℕ) (n n′ : List ℕ) (most : length n ≤ 15) (most′ : length n′ ≤ 15) (e : format t n ≡ format t′ n′) where
-  parts : (2 * (8 * t % 128) + getD (noncePart n) 0 0) ∷ drop 1 (noncePart n)
-      ≡ (2 * (8 * t′ % 128) + getD (noncePart n′) 0 0) ∷ drop 1 (noncePart n′)
+  parts : (tagByte t + getD (noncePart n) 0 0) ∷ drop 1 (noncePart n)
+      ≡ (tagByte t′ + getD (noncePart n′) 0 0) ∷ drop 1 (noncePart n′)
   parts = sym (by-parts t n most) ∙ e ∙ by-parts t′ n′ most′
 
-  first : 2 * (8 * t % 128) + getD (noncePart n) 0 0 ≡ 2 * (8 * t′ % 128) + getD (noncePart n′) 0 0
+  first : tagByte t + getD (noncePart n) 0 0 ≡ tagByte t′ + getD (noncePart n′) 0 0
   first = ap (λ (l : List ℕ). getD l 0 0) parts
 
   same-first : getD (noncePart n) 0 0 ≡ getD (noncePart n′) 0 0

@@ -6,9 +6,12 @@ use Prim.Native.Nat.{ℕ, _+_, _-_, _*_, _%_}
 use lib.ListN.{length}
 use Rattle.lists.specs.Zeros.{zeros}
 
--- byte 0 carries 2 · (8t mod 128)
+-- byte 0 carries the tag byte, 2 · (8t mod 128)
+abbrev pub tagByte : ℕ → ℕ
+tagByte t = 2 * (8 * t % 128)
+
 abbrev pub tagPart : ℕ → List ℕ
-tagPart t = (2 * (8 * t % 128)) ∷ zeros 15
+tagPart t = tagByte t ∷ zeros 15
 
 -- byte 15 − k carries 1, and the nonce stands behind it
 abbrev pub noncePart : List ℕ → List ℕ

@@ -9,11 +9,10 @@ pub fn format(t: usize, nonce: &[u8]) -> [u8; 16]
     requires { ⌜ t ≤ 16 ⌝ }
     ensures { λ r. ⌜ r ≡ formatOf t (now (nonce .entry)) ⌝ }
 {
-    let k = nonce.len();
-    let marker = 15 - k;
+    let marker = 15 - nonce.len();
     let mut b = block::zeros();
     b[0] = (2 * (8 * t % 128)) as u8;
     b[marker] = b[marker] + 1;
-    lists::lay(&mut b, 16 - k, nonce);
+    lists::lay(&mut b, marker + 1, nonce);
     b
 }

@@ -3,10 +3,8 @@ use mathlib.Core.Path.{_≡_, sym, ap, _∙_}
 use mathlib.Core.Bool.{true}
 use Prim.Native.Nat.{_+_, _-_, _≤_}
 use native.Mathlib.Omega.{arith}
-use lib.Dec.{leb}
 use borrow.Author.Tests.{le-leb, lt-leb, not-true, not-false}
-use Rattle.link.specs.Checks.{Check, pass, from-to, unless, openCheck, asAnswer}
-use Rattle.link.specs.declared.answer.Answer.the-variants.{Length, Room}
+use Rattle.link.specs.Checks.{Check, from-to, openNext, openCheck, asAnswer}
 use Rattle.link.proofs.Verdicts.{within, called, goes-on, stops-here}
 use borrow.Author.Needs.{needs}
 use Rattle.link.proofs.check.open_check.Statement.{statement}
@@ -16,7 +14,7 @@ use Rattle.link.proofs.check.open_check.Tie as tie
 abbrev next : tie.Start → Check
 next c =
     let v = c .args in
-    unless (from-to (v .tag) (16384 + v .tag) (v .sealed)) Length (unless (leb (v .sealed - v .tag) (v .room)) Room (pass (v .sealed - v .tag)))
+    openNext (v .tag) (v .sealed) (v .room)
 
 abbrev checks : tie.Start → Check
 checks c =

@@ -1,11 +1,9 @@
 -- `link::check::seal_check` meets its contract, check by check. Assumes nothing.
 use mathlib.Core.Path.{_≡_, sym, ap, _∙_}
-use Prim.Native.Nat.{_+_, _-_}
+use Prim.Native.Nat.{_+_}
 use native.Mathlib.Omega.{arith}
-use lib.Dec.{leb}
 use borrow.Author.Tests.{le-leb, lt-leb}
-use Rattle.link.specs.Checks.{Check, pass, unless, sealCheck, asAnswer}
-use Rattle.link.specs.declared.answer.Answer.the-variants.{Length, Room}
+use Rattle.link.specs.Checks.{Check, sealNext, sealCheck, asAnswer}
 use Rattle.link.proofs.Verdicts.{called, goes-on, stops-here}
 use borrow.Author.Needs.{needs}
 use Rattle.link.proofs.check.seal_check.Statement.{statement}
@@ -15,7 +13,7 @@ use Rattle.link.proofs.check.seal_check.Tie as tie
 abbrev next : tie.Start → Check
 next c =
     let v = c .args in
-    unless (leb (v .message) 16384) Length (unless (leb (v .message + v .tag) (v .room)) Room (pass (v .message + v .tag)))
+    sealNext (v .tag) (v .message) (v .room)
 
 abbrev checks : tie.Start → Check
 checks c =

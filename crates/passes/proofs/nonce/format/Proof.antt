@@ -1,10 +1,11 @@
 -- `passes::nonce::format` meets its contract. Assumes nothing.
 use mathlib.Core.Path.{_≡_, ap, _∙_}
 use mathlib.Core.List.{List}
-use Prim.Native.Nat.{ℕ, _+_, _-_, _*_, _%_}
+use Prim.Native.Nat.{ℕ, _+_, _-_}
 use native.Mathlib.Omega.{arith}
 use lib.ListN.{length, getD, set, length-set}
 use Rattle.lists.specs.Lay.{lay}
+use Rattle.mode.specs.Nonce.{tagByte}
 use Rattle.passes.proofs.Formatted.{tag-stored, one-more-fits, formatted}
 use borrow.Author.Needs.{needs}
 use Rattle.passes.proofs.nonce.format.Statement.{statement}
@@ -25,10 +26,10 @@ returns c =
     let t = start .args .t in
     let n = start .args .nonce .now in
     let j = 15 - length n in
-    let b = set (at-zeros .zeros .result) 0 (2 * (8 * t % 128)) in
-    let laid : c .before .lay .last .0 ≡ lay (16 - length n) n (set b j (getD b j 0 + 1)) = c .before .lay .ensures in
+    let b = set (at-zeros .zeros .result) 0 (tagByte t) in
+    let laid : c .before .lay .last .0 ≡ lay (j + 1) n (set b j (getD b j 0 + 1)) = c .before .lay .ensures in
     laid
-    ∙ ap (λ (l : List ℕ). lay (16 - length n) n (set l j (getD l j 0 + 1))) (tag-stored t (at-zeros .zeros .result) (at-zeros .zeros .ensures))
+    ∙ ap (λ (l : List ℕ). lay (j + 1) n (set l j (getD l j 0 + 1))) (tag-stored t (at-zeros .zeros .result) (at-zeros .zeros .ensures))
     ∙ formatted t n (start .pre .0 .1)
 
 pub format-spec : {M : Type 1} → statement M
