@@ -1,6 +1,6 @@
 //! The benchmark's other column: the library's work done by the second program's modules.
 //!
-//!     plain seal|open MESSAGE_BYTES CALLS
+//!     plain seal|open FORM MESSAGE_BYTES CALLS
 //!
 //! Makes the same call so many times, and prints the last answer as the console would.
 
@@ -12,9 +12,15 @@ mod bits;
 mod block;
 #[path = "../second/call.rs"]
 mod call;
+#[path = "../second/data_pass.rs"]
+mod data_pass;
+#[path = "../second/form.rs"]
+mod form;
 #[allow(dead_code)]
 #[path = "../second/hex.rs"]
 mod hex;
+#[path = "../second/message_pass.rs"]
+mod message_pass;
 #[path = "../second/otr.rs"]
 mod otr;
 
@@ -27,21 +33,22 @@ const TAG_BYTES: usize = 16;
 /// What the console fills a buffer with before the call.
 const UNTOUCHED: u8 = 0xa5;
 
-type Call = fn(&[u8], &[u8], &[u8], &[u8], usize, &mut [u8]) -> Answer;
+type Call = fn(usize, &[u8], &[u8], &[u8], &[u8], usize, &mut [u8]) -> Answer;
 
 fn main() {
     let words: Vec<String> = env::args().skip(1).collect();
-    let [what, message_bytes, calls] = words.as_slice() else {
-        panic!("usage: plain seal|open MESSAGE_BYTES CALLS");
+    let [what, form, message_bytes, calls] = words.as_slice() else {
+        panic!("usage: plain seal|open FORM MESSAGE_BYTES CALLS");
     };
+    let form = form.parse().expect("FORM");
     let message = by_rule(message_bytes.parse().expect("MESSAGE_BYTES"));
     let calls = calls.parse().expect("CALLS");
     let room = message.len() + TAG_BYTES;
     match what.as_str() {
-        "seal" => println!("{}", repeat(call::seal, &message, room, calls).0),
+        "seal" => println!("{}", repeat(call::seal, form, &message, room, calls).0),
         "open" => {
-            let (_, sealed) = repeat(call::seal, &message, room, 1);
-            println!("{}", repeat(call::open, &sealed, room, calls).0);
+            let (_, sealed) = repeat(call::seal, form, &message, room, 1);
+            println!("{}", repeat(call::open, form, &sealed, room, calls).0);
         }
         _ => panic!("neither seal nor open: {what}"),
     }
@@ -49,12 +56,13 @@ fn main() {
 
 /// The last call's answer line and its output buffer. What goes in and comes out passes a
 /// black box, or the optimiser might make one call of many.
-fn repeat(call: Call, string: &[u8], room: usize, calls: usize) -> (String, Vec<u8>) {
+fn repeat(call: Call, form: usize, string: &[u8], room: usize, calls: usize) -> (String, Vec<u8>) {
     let (key, nonce, data) = (by_rule(16), by_rule(12), by_rule(16));
     let mut output = vec![UNTOUCHED; room];
     let mut line = String::new();
     for made in 1..=calls {
         let answer = black_box(call)(
+            black_box(form),
             black_box(&key),
             black_box(&nonce),
             black_box(&data),

@@ -1,23 +1,33 @@
-//! The command `aes-rows`: two rows with AES in E's place.
+//! The command `aes-rows`: two rows in each form with AES in E's place.
 
 use crate::aes::Aes;
-use crate::rows::{row_line, Row};
+use crate::form::Form;
+use crate::rows::Row;
 use crate::rules;
 
 /// Few cipher calls in each: the library's checker computes these rows from its definitions.
 pub fn command() -> String {
-    aes_line(16, 17) + &aes_line(32, 16)
+    [
+        line(Form::Parallel, 16, 17, 0),
+        line(Form::Parallel, 32, 16, 0),
+        line(Form::Serial, 16, 1, 5),
+        line(Form::Serial, 16, 16, 0),
+    ]
+    .concat()
 }
 
-fn aes_line(key_bytes: usize, message: usize) -> String {
+/// `FORM KEYLEN MESSAGELEN DATALEN K T HEX` and the end of the line.
+fn line(form: Form, key_bytes: usize, message: usize, data: usize) -> String {
     let aes = aes_by_rule(key_bytes);
     let row = Row {
+        form,
         message,
-        data: 0,
+        data,
         k: 12,
         t: 16,
     };
-    format!("{} {}", key_bytes, row_line(&|b| aes.cipher(b), &row))
+    let rest = row.lengths_and_sealed(&|b| aes.cipher(b));
+    format!("{} {} {}", row.form_number(), key_bytes, rest)
 }
 
 /// Only for the key lengths 16, 24 and 32.

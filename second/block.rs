@@ -6,6 +6,9 @@ pub const BLOCK_BITS: usize = 8 * BLOCK_BYTES;
 pub type Block = [u8; BLOCK_BYTES];
 pub const ZERO: Block = [0; BLOCK_BYTES];
 
+/// The paper's E.
+pub type Cipher<'a> = &'a dyn Fn(&Block) -> Block;
+
 pub fn xor(x: &Block, y: &Block) -> Block {
     let mut sum = *x;
     for (s, y_byte) in sum.iter_mut().zip(y) {

@@ -1,7 +1,9 @@
-//! The call level: 01, "Numbers a call may carry" and "What comes back", with wish 5 of 02:
-//! a nonce has 1 to 15 bytes.
+//! The call level: 01, "Numbers a call may carry" and "What comes back", with wish 1 of 02:
+//! each call names its form, and one that is neither parallel (0) nor serial (1) is refused
+//! with 8 before all else; and with wish 5: a nonce has 1 to 15 bytes.
 
 use crate::aes::Aes;
+use crate::form::Form;
 use crate::otr::{otr_d, otr_e};
 
 pub const DATA_MAX: usize = 4_096;
@@ -13,6 +15,7 @@ pub struct Answer {
 }
 
 pub fn seal(
+    form: usize,
     key: &[u8],
     nonce: &[u8],
     data: &[u8],
@@ -20,6 +23,9 @@ pub fn seal(
     t: usize,
     output: &mut [u8],
 ) -> Answer {
+    let Some(form) = Form::named(form) else {
+        return refused(8);
+    };
     let Some(aes) = Aes::new(key) else {
         return refused(1);
     };
@@ -32,11 +38,12 @@ pub fn seal(
     if output.len() < message.len() + t {
         return refused(6);
     }
-    let (c, tag) = otr_e(&|b| aes.cipher(b), t, nonce, data, message);
+    let (c, tag) = otr_e(form, &|b| aes.cipher(b), t, nonce, data, message);
     done(&[c, tag].concat(), output)
 }
 
 pub fn open(
+    form: usize,
     key: &[u8],
     nonce: &[u8],
     data: &[u8],
@@ -44,6 +51,9 @@ pub fn open(
     t: usize,
     output: &mut [u8],
 ) -> Answer {
+    let Some(form) = Form::named(form) else {
+        return refused(8);
+    };
     let Some(aes) = Aes::new(key) else {
         return refused(1);
     };
@@ -58,7 +68,7 @@ pub fn open(
         return refused(6);
     }
     let (c, tag) = sealed.split_at(message_bytes);
-    match otr_d(&|b| aes.cipher(b), nonce, data, c, tag) {
+    match otr_d(form, &|b| aes.cipher(b), nonce, data, c, tag) {
         Some(message) => done(&message, output),
         None => {
             output[..message_bytes].fill(0);

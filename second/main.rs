@@ -1,5 +1,5 @@
-//! Shaftladder's independent second program: AES-OTR v3.1 with parallel ADP,
-//! written from the paper (000) and the exact rules (01, and wish 5 of 02) alone.
+//! Shaftladder's independent second program: AES-OTR v3.1 with parallel and serial ADP,
+//! written from the paper (000) and the exact rules (01, and wishes 1 and 5 of 02) alone.
 //! See README.md.
 
 mod aes;
@@ -7,11 +7,14 @@ mod aes_rows;
 mod bits;
 mod block;
 mod call;
+mod data_pass;
 mod failure;
 mod files;
+mod form;
 mod generator;
 mod hex;
 mod known;
+mod message_pass;
 mod otr;
 mod random_requests;
 mod request;
@@ -21,6 +24,8 @@ mod rules;
 mod seam_lengths;
 mod seam_requests;
 mod seams;
+#[cfg(test)]
+mod serial_tests;
 mod standin;
 #[cfg(test)]
 mod tests;

@@ -32,6 +32,7 @@ fn sound_sealing(draw: &mut Generator) -> Request {
     };
     Request {
         kind: Kind::Seal,
+        form: draw.below(2),
         key: draw.bytes(key_bytes),
         nonce: draw.bytes(nonce_bytes),
         data: draw.bytes(data_bytes),
@@ -80,7 +81,7 @@ fn opening_of_other_bytes(draw: &mut Generator, sealing: Request) -> Request {
 }
 
 fn mishap(draw: &mut Generator, request: &mut Request) {
-    match draw.below(32) {
+    match draw.below(38) {
         // Seldom, since such a line is long.
         0 => {
             let len = DATA_MAX + 1 + draw.below(100);
@@ -99,6 +100,9 @@ fn mishap(draw: &mut Generator, request: &mut Request) {
         18..=20 => request.room = draw.below(request.room + 1),
         21..=23 => one_byte_short(request),
         24..=25 => request.t = 4 + draw.below(13),
+        26..=28 => request.form = draw.pick(&[2, 3, 7, 10, 255, 256, 257, 65_535]),
+        // 0 and 1 change places; a form that is neither stays neither.
+        29..=31 => request.form ^= 1,
         _ => wrong_bit(draw, request),
     }
 }

@@ -15,6 +15,7 @@ pub enum Kind {
 #[derive(Clone)]
 pub struct Request {
     pub kind: Kind,
+    pub form: usize,
     pub key: Vec<u8>,
     pub nonce: Vec<u8>,
     pub data: Vec<u8>,
@@ -33,6 +34,7 @@ impl Request {
             Kind::Open => open,
         };
         let answer = call(
+            self.form,
             &self.key,
             &self.nonce,
             &self.data,
@@ -59,7 +61,7 @@ impl Request {
         })
     }
 
-    /// `seal|open KEY NONCE DATA BODY TAG ROOM` and the end of the line.
+    /// `seal|open FORM KEY NONCE DATA BODY TAG ROOM` and the end of the line.
     pub fn request_line(&self) -> String {
         let name = match self.kind {
             Kind::Seal => "seal",
@@ -67,7 +69,7 @@ impl Request {
         };
         let strings = [&self.key, &self.nonce, &self.data, &self.body];
         let fields = strings.map(|bytes| hex::field(bytes)).join(" ");
-        format!("{name} {fields} {} {}\n", self.t, self.room)
+        format!("{name} {} {fields} {} {}\n", self.form, self.t, self.room)
     }
 
     /// `NUMBER LENGTH OUTPUT` and the end of the line.

@@ -86,7 +86,7 @@ pub fn seam_lengths() -> Vec<Lengths> {
 }
 
 /// The longest nonce and one byte more, at every tag length.
-fn longest_nonces() -> Vec<Lengths> {
+pub fn longest_nonces() -> Vec<Lengths> {
     let mut list = Vec::new();
     for nonce in [15, 16] {
         for t in 4..=16 {

@@ -8,24 +8,34 @@ use crate::seam_lengths::{seam_lengths, Lengths, USUAL};
 const SEED: u64 = u64::MAX;
 const AMPLE: usize = 37;
 const ROOM_MAX: usize = 20_480;
+/// Up to the largest number that a request may have.
+const NO_FORMS: [usize; 6] = [2, 3, 255, 256, 257, 65_535];
+/// In the order in which they are checked: 8 is the first (wish 1 of 02).
+const FAULTS: [u8; 7] = [8, 1, 2, 3, 4, 5, 6];
 
 pub fn seam_requests() -> Vec<Request> {
     let draw = &mut Generator::new(SEED);
     let mut requests = Vec::new();
-    for lengths in seam_lengths() {
-        requests.extend(around(draw, lengths));
+    for form in [0, 1] {
+        for lengths in seam_lengths() {
+            requests.extend(around(draw, form, lengths));
+        }
+        requests.extend(shortest_sealed(draw, form));
+        requests.extend(two_faults(draw, form, Kind::Seal));
+        requests.extend(two_faults(draw, form, Kind::Open));
+        requests.extend(largest_room(draw, form));
     }
-    requests.extend(shortest_sealed(draw));
-    requests.extend(two_faults(draw, Kind::Seal));
-    requests.extend(two_faults(draw, Kind::Open));
-    requests.extend(largest_room(draw));
+    for form in NO_FORMS {
+        requests.extend(no_form(draw, form));
+    }
     requests
 }
 
 /// A sealing with exact room.
-fn sealing(draw: &mut Generator, lengths: Lengths) -> Request {
+fn sealing(draw: &mut Generator, form: usize, lengths: Lengths) -> Request {
     Request {
         kind: Kind::Seal,
+        form,
         key: draw.bytes(lengths.key),
         nonce: draw.bytes(lengths.nonce),
         data: draw.bytes(lengths.data),
@@ -35,14 +45,18 @@ fn sealing(draw: &mut Generator, lengths: Lengths) -> Request {
     }
 }
 
-/// The sealing in three rooms, its openings in three rooms, and those with room enough
-/// again with one bit changed. Where the sealing is refused: an opening of other bytes
+/// The sealing in three rooms, its openings in three rooms, those with room enough again
+/// with one bit changed, and one in the other form. Where the sealing is refused: an opening of other bytes
 /// with the same lengths.
-fn around(draw: &mut Generator, lengths: Lengths) -> Vec<Request> {
-    let sealing = sealing(draw, lengths);
+fn around(draw: &mut Generator, form: usize, lengths: Lengths) -> Vec<Request> {
+    let sealing = sealing(draw, form, lengths);
     let mut requests = three_rooms(&sealing);
     match sealing.opening() {
         Some(opening) => {
+            requests.push(Request {
+                form: 1 - form,
+                ..opening.clone()
+            });
             for opening in three_rooms(&opening) {
                 requests.push(opening.clone());
                 if opening.room >= lengths.message {
@@ -50,14 +64,19 @@ fn around(draw: &mut Generator, lengths: Lengths) -> Vec<Request> {
                 }
             }
         }
-        None => requests.push(Request {
-            kind: Kind::Open,
-            body: draw.bytes(lengths.message + lengths.t),
-            room: lengths.message,
-            ..sealing
-        }),
+        None => requests.push(other_bytes(draw, &sealing)),
     }
     requests
+}
+
+/// An opening of bytes that nobody sealed, with exact room.
+fn other_bytes(draw: &mut Generator, sealing: &Request) -> Request {
+    Request {
+        kind: Kind::Open,
+        body: draw.bytes(sealing.body.len() + sealing.t),
+        room: sealing.body.len(),
+        ..sealing.clone()
+    }
 }
 
 /// One short (where that is not negative), exact and ample, from exact.
@@ -98,12 +117,12 @@ fn one_bit_changed(draw: &mut Generator, opening: &Request) -> Vec<Request> {
 }
 
 /// Openings of 0, t - 1 and t bytes that nobody sealed.
-fn shortest_sealed(draw: &mut Generator) -> Vec<Request> {
+fn shortest_sealed(draw: &mut Generator, form: usize) -> Vec<Request> {
     let mut list = Vec::new();
     for t in 4..=16 {
         for (sealed, room) in [(0, 0), (t - 1, 0), (t - 1, 7), (t, 0), (t, 7)] {
             let body = draw.bytes(sealed);
-            let sealing = sealing(draw, Lengths { t, ..USUAL });
+            let sealing = sealing(draw, form, Lengths { t, ..USUAL });
             list.push(Request {
                 kind: Kind::Open,
                 body,
@@ -115,18 +134,18 @@ fn shortest_sealed(draw: &mut Generator) -> Vec<Request> {
     list
 }
 
-/// Every fault alone and every two together: the lower number is the answer.
-fn two_faults(draw: &mut Generator, kind: Kind) -> Vec<Request> {
+/// Every fault alone and every two together: the one checked first is the answer.
+fn two_faults(draw: &mut Generator, form: usize, kind: Kind) -> Vec<Request> {
     let mut list = Vec::new();
-    for lower in 1..=6 {
-        for higher in lower..=6 {
-            let sealing = sealing(draw, USUAL);
+    for (place, &first) in FAULTS.iter().enumerate() {
+        for &second in &FAULTS[place..] {
+            let sealing = sealing(draw, form, USUAL);
             let mut request = match (kind, sealing.opening()) {
                 (Kind::Open, Some(opening)) => opening,
                 _ => sealing,
             };
-            add_fault(draw, &mut request, lower);
-            add_fault(draw, &mut request, higher);
+            add_fault(draw, &mut request, first);
+            add_fault(draw, &mut request, second);
             list.push(request);
         }
     }
@@ -135,6 +154,7 @@ fn two_faults(draw: &mut Generator, kind: Kind) -> Vec<Request> {
 
 fn add_fault(draw: &mut Generator, request: &mut Request, number: u8) {
     match number {
+        8 => request.form = 2,
         1 => request.key = draw.bytes(17),
         2 => request.nonce = draw.bytes(16),
         3 => request.t = 3,
@@ -145,8 +165,8 @@ fn add_fault(draw: &mut Generator, request: &mut Request, number: u8) {
 }
 
 /// A sealing, its opening, and that with the key changed, in the largest room.
-fn largest_room(draw: &mut Generator) -> Vec<Request> {
-    let mut list = vec![sealing(draw, USUAL)];
+fn largest_room(draw: &mut Generator, form: usize) -> Vec<Request> {
+    let mut list = vec![sealing(draw, form, USUAL)];
     if let Some(opening) = list[0].opening() {
         list.push(opening.clone());
         list.extend(one_bit_changed(draw, &opening).pop());
@@ -155,4 +175,11 @@ fn largest_room(draw: &mut Generator) -> Vec<Request> {
         request.room = ROOM_MAX;
     }
     list
+}
+
+/// A sealing and an opening in a form that is none, each in three rooms.
+fn no_form(draw: &mut Generator, form: usize) -> Vec<Request> {
+    let sealing = sealing(draw, form, USUAL);
+    let opening = other_bytes(draw, &sealing);
+    [three_rooms(&sealing), three_rooms(&opening)].concat()
 }

@@ -7,17 +7,21 @@ use crate::files;
 use crate::hex;
 use crate::request::{Kind, Request};
 use crate::rules;
+use crate::seam_lengths::{longest_nonces, Lengths, USUAL};
 
 const MESSAGES: [usize; 11] = [0, 1, 15, 16, 17, 31, 32, 33, 48, 16_383, 16_384];
+const MESSAGES_WITHOUT_DATA: [usize; 5] = [0, 1, 16, 17, 33];
 
 pub fn command(file_requests: &str, file_answers: &str) -> Result<String, Failure> {
-    let mut table = format!("length  blocks  last   side  nonce   t  {:<32}\n", "tag");
+    let mut table = format!(
+        "form  length  blocks  last   side  data  nonce   t  {:<32}\n",
+        "tag"
+    );
     let mut requests = Vec::new();
-    for (message, nonce, t) in seams() {
-        let sealing = sealing(message, nonce, t);
+    for sealing in sealings() {
         let sealed = sealing.opening();
         let tag = sealed.as_ref().map_or("-".to_string(), |opening| {
-            hex::encode(&opening.body[message..])
+            hex::encode(&opening.body[sealing.body.len()..])
         });
         table += &line(&sealing, &tag);
         let opening = sealed.unwrap_or_else(|| other_bytes(&sealing));
@@ -28,25 +32,42 @@ pub fn command(file_requests: &str, file_answers: &str) -> Result<String, Failur
     Ok(table)
 }
 
-/// The bytes of message, nonce and tag: each seam of the message; then the longest nonce,
-/// and one byte more, which is refused, at every tag length.
-fn seams() -> Vec<(usize, usize, usize)> {
-    let messages = MESSAGES.map(|message| (message, 12, 16));
-    let nonces = [15, 16]
-        .into_iter()
-        .flat_map(|nonce| (4..=16).map(move |t| (20, nonce, t)));
-    messages.into_iter().chain(nonces).collect()
+/// The seams in both forms, and a form that is none, which is refused.
+fn sealings() -> Vec<Request> {
+    let mut list = Vec::new();
+    for form in [0, 1] {
+        list.extend(seams().into_iter().map(|lengths| sealing(form, lengths)));
+    }
+    list.push(sealing(2, USUAL));
+    list
 }
 
-fn sealing(message: usize, nonce: usize, t: usize) -> Request {
+/// Each seam of the message; the longest nonce, and one byte more, which is refused, at
+/// every tag length; and no data.
+fn seams() -> Vec<Lengths> {
+    let messages = MESSAGES.map(|message| Lengths { message, ..USUAL });
+    let without_data = MESSAGES_WITHOUT_DATA.map(|message| Lengths {
+        data: 0,
+        message,
+        ..USUAL
+    });
+    messages
+        .into_iter()
+        .chain(longest_nonces())
+        .chain(without_data)
+        .collect()
+}
+
+fn sealing(form: usize, lengths: Lengths) -> Request {
     Request {
         kind: Kind::Seal,
-        key: rules::key(16),
-        nonce: rules::nonce(nonce),
-        data: rules::data(5),
-        body: rules::message(message),
-        t,
-        room: message + t,
+        form,
+        key: rules::key(lengths.key),
+        nonce: rules::nonce(lengths.nonce),
+        data: rules::data(lengths.data),
+        body: rules::message(lengths.message),
+        t: lengths.t,
+        room: lengths.message + lengths.t,
     }
 }
 
@@ -74,11 +95,13 @@ fn line(sealing: &Request, tag: &str) -> String {
     let m = blocks.len();
     let full = blocks[m - 1].len() == BLOCK_BYTES;
     format!(
-        "{:>6}  {:>6}  {:<5}  {:<4}  {:>5}  {:>2}  {:<32}\n",
+        "{:>4}  {:>6}  {:>6}  {:<5}  {:<4}  {:>4}  {:>5}  {:>2}  {:<32}\n",
+        sealing.form,
         sealing.body.len(),
         m,
         if full { "full" } else { "short" },
         if m % 2 == 0 { "even" } else { "odd" },
+        sealing.data.len(),
         sealing.nonce.len(),
         sealing.t,
         tag

@@ -1,7 +1,8 @@
 //! Rows over a small stand-in cipher in E's place.
 
 use crate::block::{Block, BLOCK_BYTES, ZERO};
-use crate::rows::{row_line, Row};
+use crate::form::Form;
+use crate::rows::Row;
 
 const MESSAGES: [usize; 14] = [0, 1, 15, 16, 17, 31, 32, 33, 47, 48, 49, 64, 65, 100];
 const DATA: [usize; 6] = [0, 1, 15, 16, 17, 33];
@@ -29,31 +30,61 @@ pub fn stand_in(b: &Block) -> Block {
 }
 
 pub fn command() -> String {
-    rows().iter().map(|row| row_line(&stand_in, row)).collect()
+    rows().iter().map(line).collect()
 }
 
+/// `FORM MESSAGELEN DATALEN K T HEX` and the end of the line.
+fn line(row: &Row) -> String {
+    let rest = row.lengths_and_sealed(&stand_in);
+    format!("{} {}", row.form_number(), rest)
+}
+
+/// With serial ADP the message pass depends on the data through U: its seams with data too.
 fn rows() -> Vec<Row> {
-    let by_message = MESSAGES.map(|message| Row {
+    let (parallel, serial) = (Form::Parallel, Form::Serial);
+    [
+        by_message(parallel, 0),
+        by_data(parallel),
+        by_k_and_t(parallel),
+        by_message(serial, 0),
+        by_message(serial, 5),
+        by_data(serial),
+        by_k_and_t(serial),
+    ]
+    .into_iter()
+    .flatten()
+    .collect()
+}
+
+fn by_message(form: Form, data: usize) -> Vec<Row> {
+    let row = |message| Row {
+        form,
         message,
-        data: 0,
+        data,
         k: 12,
         t: 16,
-    });
-    let by_data = DATA.map(|data| Row {
+    };
+    MESSAGES.map(row).into()
+}
+
+fn by_data(form: Form) -> Vec<Row> {
+    let row = |data| Row {
+        form,
         message: 20,
         data,
         k: 12,
         t: 16,
-    });
-    let by_k_and_t = K_AND_T.map(|(k, t)| Row {
+    };
+    DATA.map(row).into()
+}
+
+fn by_k_and_t(form: Form) -> Vec<Row> {
+    let row = |(k, t)| Row {
+        form,
         message: 33,
         data: 17,
         k,
         t,
-    });
-    by_message
-        .into_iter()
-        .chain(by_data)
-        .chain(by_k_and_t)
-        .collect()
+    };
+    K_AND_T.map(row).into()
 }

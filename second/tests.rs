@@ -4,6 +4,7 @@ use crate::aes::{substitute, Aes};
 use crate::bits::n2s;
 use crate::block::{double, pad, times_3_squared, times_7, Block, BLOCK_BYTES, ZERO};
 use crate::call::{open, seal};
+use crate::form::Form;
 use crate::hex;
 use crate::otr::{format, otr_d, otr_e};
 use crate::rules;
@@ -13,7 +14,7 @@ fn bytes(text: &str) -> Vec<u8> {
     hex::decode(text).unwrap()
 }
 
-fn block(text: &str) -> Block {
+pub fn block(text: &str) -> Block {
     bytes(text).try_into().unwrap()
 }
 
@@ -86,7 +87,7 @@ fn n2s_example() {
     assert_eq!(n2s(11, 5), [false, true, false, true, true]);
 }
 
-/// For |N| = 120 figure 1 has no zeros between the seven bits and the 1:
+/// For |N| = 120 the figures have no zeros between the seven bits and the 1:
 /// t = 15 is 1111000 1, t = 16 is 0000000 1, t = 4 is 0100000 1.
 #[test]
 fn format_of_15_bytes() {
@@ -119,65 +120,85 @@ fn format_of_1_to_14_bytes() {
 
 #[test]
 fn nonces_of_0_and_16_bytes_are_refused_and_the_output_kept() {
-    let (key, data, body) = (rules::key(16), rules::data(5), rules::message(40));
-    for k in [0, 16] {
+    for form in [0, 1] {
+        for k in [0, 16] {
+            for t in 4..=16 {
+                check_refused_and_kept(form, 16, k, t, 2);
+            }
+        }
+    }
+}
+
+/// Sealing and opening 40 bytes with room enough.
+pub fn check_refused_and_kept(form: usize, key_bytes: usize, k: usize, t: usize, number: u8) {
+    let (key, nonce) = (rules::key(key_bytes), rules::nonce(k));
+    let (data, body) = (rules::data(5), rules::message(40));
+    for call in [seal, open] {
+        let mut output = vec![0xa5; 60];
+        let answer = call(form, &key, &nonce, &data, &body, t, &mut output);
+        assert_eq!((answer.number, answer.length), (number, 0));
+        assert_eq!(output, [0xa5; 60]);
+    }
+}
+
+#[test]
+fn a_nonce_of_15_bytes_seals_and_opens_at_every_t() {
+    for form in [0, 1] {
         for t in 4..=16 {
-            for call in [seal, open] {
-                let mut output = vec![0xa5; 60];
-                let answer = call(&key, &rules::nonce(k), &data, &body, t, &mut output);
-                assert_eq!((answer.number, answer.length), (2, 0));
-                assert_eq!(output, [0xa5; 60]);
+            for len in [0, 1, 16, 17, 33] {
+                check_round_trip(form, t, len);
+            }
+        }
+    }
+}
+
+fn check_round_trip(form: usize, t: usize, len: usize) {
+    let (key, nonce, data) = (rules::key(32), rules::nonce(15), rules::data(17));
+    let message = rules::message(len);
+    let mut sealed = vec![0xa5; len + t];
+    let answer = seal(form, &key, &nonce, &data, &message, t, &mut sealed);
+    assert_eq!((answer.number, answer.length), (0, len + t));
+    let mut output = vec![0xa5; len];
+    let answer = open(form, &key, &nonce, &data, &sealed, t, &mut output);
+    assert_eq!((answer.number, answer.length), (0, len));
+    assert_eq!(output, message);
+}
+
+#[test]
+fn opening_undoes_sealing() {
+    let n = rules::nonce(12);
+    for form in [Form::Parallel, Form::Serial] {
+        for a in [rules::data(0), rules::data(17)] {
+            for len in 0..200 {
+                let m = rules::message(len);
+                let (c, tag) = otr_e(form, &stand_in, 16, &n, &a, &m);
+                assert_eq!((c.len(), tag.len()), (len, BLOCK_BYTES));
+                assert_eq!(otr_d(form, &stand_in, &n, &a, &c, &tag), Some(m));
             }
         }
     }
 }
 
 #[test]
-fn a_nonce_of_15_bytes_seals_and_opens_at_every_t() {
-    let (key, nonce, data) = (rules::key(32), rules::nonce(15), rules::data(17));
-    for t in 4..=16 {
-        for len in [0, 1, 16, 17, 33] {
-            let message = rules::message(len);
-            let mut sealed = vec![0xa5; len + t];
-            let answer = seal(&key, &nonce, &data, &message, t, &mut sealed);
-            assert_eq!((answer.number, answer.length), (0, len + t));
-            let mut output = vec![0xa5; len];
-            let answer = open(&key, &nonce, &data, &sealed, t, &mut output);
-            assert_eq!((answer.number, answer.length), (0, len));
-            assert_eq!(output, message);
-        }
-    }
-}
-
-#[test]
-fn opening_undoes_sealing() {
-    let (n, a) = (rules::nonce(12), rules::data(17));
-    for len in 0..200 {
-        let m = rules::message(len);
-        let (c, tag) = otr_e(&stand_in, 16, &n, &a, &m);
-        assert_eq!((c.len(), tag.len()), (len, BLOCK_BYTES));
-        assert_eq!(otr_d(&stand_in, &n, &a, &c, &tag), Some(m));
-    }
-}
-
-#[test]
 fn every_changed_bit_is_refused_and_the_output_zeroed() {
-    for k in [14, 15] {
-        for len in [0, 1, 16, 17, 32, 33, 48, 49] {
-            check_changed_bits(&rules::nonce(k), len);
+    for form in [0, 1] {
+        for k in [14, 15] {
+            for len in [0, 1, 16, 17, 32, 33, 48, 49] {
+                check_changed_bits(form, &rules::nonce(k), len);
+            }
         }
     }
 }
 
-fn check_changed_bits(nonce: &[u8], len: usize) {
-    let (key, data) = (rules::key(24), rules::data(5));
+fn check_changed_bits(form: usize, nonce: &[u8], len: usize) {
+    let (key, data, message) = (rules::key(24), rules::data(5), rules::message(len));
     let mut sealed = vec![0xa5; len + 12];
-    let answer = seal(&key, nonce, &data, &rules::message(len), 12, &mut sealed);
+    let answer = seal(form, &key, nonce, &data, &message, 12, &mut sealed);
     assert_eq!((answer.number, answer.length), (0, len + 12));
     for bit in 0..8 * sealed.len() {
         sealed[bit / 8] ^= 1 << (bit % 8);
         let mut output = vec![0xa5; len + 3];
-        let answer = open(&key, nonce, &data, &sealed, 12, &mut output);
+        let answer = open(form, &key, nonce, &data, &sealed, 12, &mut output);
         assert_eq!((answer.number, answer.length), (7, 0));
         assert_eq!(output, [vec![0; len], vec![0xa5; 3]].concat());
         sealed[bit / 8] ^= 1 << (bit % 8);
@@ -190,7 +211,7 @@ fn empty_message_is_one_short_block() {
     let u = stand_in(&format(16, &rules::nonce(12)));
     let mut input = times_3_squared(&u);
     input[0] ^= 0x80;
-    let (c, tag) = otr_e(&stand_in, 16, &rules::nonce(12), &[], &[]);
+    let (c, tag) = otr_e(Form::Parallel, &stand_in, 16, &rules::nonce(12), &[], &[]);
     assert!(c.is_empty());
     assert_eq!(tag, stand_in(&input));
 }

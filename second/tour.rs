@@ -11,10 +11,7 @@ pub fn command(file_requests: &str, file_answers: &str) -> Result<String, Failur
     let mut tour = Tour::default();
     let sealing = sealing();
     tour.call("0: sealed. The message `three steps west`, then 16 bytes of tag; what the call left alone holds a5.", &sealing);
-    let opening = Request {
-        room: sealing.body.len() + 4,
-        ..sealing.opening().expect("the tour's sealing is done")
-    };
+    let opening = opening(&sealing);
     tour.call("0: opened.", &opening);
     let longest = Request {
         nonce: rules::nonce(15),
@@ -25,11 +22,9 @@ pub fn command(file_requests: &str, file_answers: &str) -> Result<String, Failur
         "0: sealed with a nonce of 15 bytes, the longest, and a tag of 15.",
         &longest,
     );
+    serial(&mut tour, &sealing);
     refusals(&mut tour, &sealing, &opening);
-    tour.bad("A field too few.", "seal 00 01 02 03 16");
-    tour.bad("Two spaces.", "seal 00 01  02 03 16 4");
-    tour.bad("Half a byte.", "seal 0 01 02 03 16 4");
-    tour.bad("More room than there is.", "seal 00 01 02 03 16 20481");
+    bad_lines(&mut tour);
     files::write(file_requests, &tour.requests)?;
     files::write(file_answers, &tour.answers)?;
     Ok(String::new())
@@ -38,6 +33,7 @@ pub fn command(file_requests: &str, file_answers: &str) -> Result<String, Failur
 fn sealing() -> Request {
     Request {
         kind: Kind::Seal,
+        form: 0,
         key: rules::key(16),
         nonce: rules::nonce(12),
         data: b"mount 2".to_vec(),
@@ -47,62 +43,73 @@ fn sealing() -> Request {
     }
 }
 
+fn opening(sealing: &Request) -> Request {
+    Request {
+        room: sealing.body.len() + 4,
+        ..sealing.opening().expect("the tour's sealing is done")
+    }
+}
+
+fn serial(tour: &mut Tour, sealing: &Request) {
+    let sealing = Request {
+        form: 1,
+        ..sealing.clone()
+    };
+    tour.call("0: sealed in the serial form.", &sealing);
+    let opening = opening(&sealing);
+    tour.call("0: opened.", &opening);
+    tour.changed(
+        "7: what one form sealed the other refuses.",
+        &opening,
+        |request| request.form = 0,
+    );
+}
+
 fn refusals(tour: &mut Tour, sealing: &Request, opening: &Request) {
-    let key = rules::key(17);
-    tour.call(
-        "1: a key of 17 bytes.",
-        &Request {
-            key,
-            ..sealing.clone()
+    tour.changed(
+        "8: a form that is neither parallel (0) nor serial (1).",
+        sealing,
+        |request| request.form = 2,
+    );
+    tour.changed(
+        "8 before 1: such a form, and a key of 17 bytes.",
+        sealing,
+        |request| {
+            request.form = 2;
+            request.key = rules::key(17);
         },
     );
-    let nonce = rules::nonce(16);
-    tour.call(
-        "2: a nonce of 16 bytes.",
-        &Request {
-            nonce,
-            ..sealing.clone()
-        },
-    );
-    tour.call(
-        "3: a tag of 3 bytes.",
-        &Request {
-            t: 3,
-            ..sealing.clone()
-        },
-    );
-    let body = opening.body[..15].to_vec();
-    tour.call(
-        "5: shorter than its tag.",
-        &Request {
-            body,
-            ..opening.clone()
-        },
-    );
-    tour.call(
-        "6: room for one byte too few.",
-        &Request {
-            room: 31,
-            ..sealing.clone()
-        },
-    );
-    let mut body = opening.body.clone();
-    body[0] ^= 1;
-    tour.call(
+    tour.changed("1: a key of 17 bytes.", sealing, |request| {
+        request.key = rules::key(17);
+    });
+    tour.changed("2: a nonce of 16 bytes.", sealing, |request| {
+        request.nonce = rules::nonce(16);
+    });
+    tour.changed("3: a tag of 3 bytes.", sealing, |request| request.t = 3);
+    tour.changed("5: shorter than its tag.", opening, |request| {
+        request.body.truncate(15);
+    });
+    tour.changed("6: room for one byte too few.", sealing, |request| {
+        request.room = 31;
+    });
+    tour.changed(
         "7: one bit changed. Where the message would stand there are zeros.",
-        &Request {
-            body,
-            ..opening.clone()
-        },
+        opening,
+        |request| request.body[0] ^= 1,
     );
-    let data = rules::data(DATA_MAX + 1);
-    tour.call(
+    tour.changed(
         "4: data of 4,097 bytes, in a long line.",
-        &Request {
-            data,
-            ..sealing.clone()
-        },
+        sealing,
+        |request| request.data = rules::data(DATA_MAX + 1),
     );
+}
+
+fn bad_lines(tour: &mut Tour) {
+    tour.bad("A field too few.", "seal 0 00 01 02 03 16");
+    tour.bad("Two spaces.", "seal 0 00 01  02 03 16 4");
+    tour.bad("Half a byte.", "seal 0 0 01 02 03 16 4");
+    tour.bad("More room than there is.", "seal 0 00 01 02 03 16 20481");
+    tour.bad("A form of six digits.", "seal 000000 00 01 02 03 16 4");
 }
 
 #[derive(Default)]
@@ -115,6 +122,13 @@ impl Tour {
     fn call(&mut self, words: &str, request: &Request) {
         self.requests += &format!("# {words}\n{}", request.request_line());
         self.answers += &request.answer_line();
+    }
+
+    /// The call after a change to the request.
+    fn changed(&mut self, words: &str, request: &Request, change: fn(&mut Request)) {
+        let mut request = request.clone();
+        change(&mut request);
+        self.call(words, &request);
     }
 
     fn bad(&mut self, words: &str, line: &str) {

@@ -36,11 +36,12 @@ fn call(line: &[u8], request: Request, buffer: &mut [u8]) -> link::Answer
     let nonce = bytes_of(line, strings.nonce);
     let data = bytes_of(line, strings.data);
     let message = bytes_of(line, strings.message);
+    let form = request.form;
     let tag = request.tag;
     if request.opens {
-        link::open(key, nonce, data, message, tag, buffer)
+        link::open(form, key, nonce, data, message, tag, buffer)
     } else {
-        link::seal(key, nonce, data, message, tag, buffer)
+        link::seal(form, key, nonce, data, message, tag, buffer)
     }
 }
 

@@ -1,10 +1,10 @@
 // The bench console: whoever types or pipes in requests, one a line, sees exactly what a box would answer.
 //
-//     seal KEY NONCE DATA MESSAGE TAG ROOM
-//     open KEY NONCE DATA SEALED TAG ROOM
+//     seal FORM KEY NONCE DATA MESSAGE TAG ROOM
+//     open FORM KEY NONCE DATA SEALED TAG ROOM
 //
 // One space stands between two fields. The four strings are hexadecimal, two digits of either case a byte, or `-` for no bytes.
-// TAG and ROOM are decimal, up to 65535 and 20480. The output buffer has ROOM bytes, all a5 before the call. The answer is the line
+// FORM, TAG and ROOM are decimal, up to 65535, 65535 and 20480; 0 is the parallel form, 1 the serial one. The output buffer has ROOM bytes, all a5 before the call. The answer is the line
 // `NUMBER LENGTH OUTPUT`, where OUTPUT is the whole buffer after the call, in hexadecimal.
 //
 // A line has up to 65000 bytes, and ends at LF, CR LF or the input's end. One that is empty or begins with `#` is passed over. Any

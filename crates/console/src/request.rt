@@ -25,6 +25,7 @@ pub struct Strings {
 
 pub struct Request {
     pub opens: bool,
+    pub form: usize,
     pub strings: Strings,
     pub tag: usize,
     pub room: usize,
@@ -72,7 +73,17 @@ fn begins(line: &[u8], word: &[u8]) -> bool {
 fn parse_fields(line: &mut [u8], opens: bool) -> Line
     ensures { λ r. ⌜ Good (length (now (line .exit))) r ⌝ }
 {
-    let Field::Bytes(key, next) = fields::bytes(line, FIRST_FIELD) else {
+    let Field::Number(form, next) = fields::number(line, FIRST_FIELD) else {
+        return Line::Bad;
+    };
+    parse_strings(line, next, opens, form)
+}
+
+// The fields from `from` to the line's end: the four strings, and what follows them.
+fn parse_strings(line: &mut [u8], from: usize, opens: bool, form: usize) -> Line
+    ensures { λ r. ⌜ Good (length (now (line .exit))) r ⌝ }
+{
+    let Field::Bytes(key, next) = fields::bytes(line, from) else {
         return Line::Bad;
     };
     let Field::Bytes(nonce, next) = fields::bytes(line, next) else {
@@ -90,11 +101,11 @@ fn parse_fields(line: &mut [u8], opens: bool) -> Line
         data,
         message,
     };
-    parse_numbers(line, next, opens, strings)
+    parse_numbers(line, next, opens, form, strings)
 }
 
 // The last two fields, from `from` to the line's end, and with them the request.
-fn parse_numbers(line: &[u8], from: usize, opens: bool, strings: Strings) -> Line
+fn parse_numbers(line: &[u8], from: usize, opens: bool, form: usize, strings: Strings) -> Line
     requires { ⌜ Within (length (now line)) strings ⌝ }
     ensures { λ r. ⌜ Good (length (now (line .entry))) r ⌝ }
 {
@@ -110,6 +121,7 @@ fn parse_numbers(line: &[u8], from: usize, opens: bool, strings: Strings) -> Lin
     }
     Line::Request(Request {
         opens,
+        form,
         strings,
         tag,
         room,

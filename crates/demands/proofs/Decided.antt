@@ -6,6 +6,7 @@ use Prim.Native.Nat.{ℕ, _+_, _-_, _≤_}
 use native.Mathlib.Omega.{arith}
 use lib.ListN.{length}
 use Rattle.aes.specs.Expansion.{aes}
+use Rattle.mode.specs.Form.{formOf}
 use Rattle.mode.specs.Opening.{Opened, Allowed}
 use Rattle.mode.proofs.Third.{otr-one-answer}
 use Rattle.passes.specs.Shown.{shown}
@@ -23,11 +24,11 @@ by-seal : (c : Check) (bytes out : List ℕ) (r r′ : Answer) (a a′ : List �
 by-seal (pass n) bytes out r r′ a a′ p q = (p .0 ∙ sym (q .0), p .1 ∙ sym (q .1))
 by-seal (stop x) bytes out r r′ a a′ p q = (p .0 ∙ sym (q .0), p .1 ∙ sym (q .1))
 
-pub seals-decided : (key nonce ad m : List ℕ) (t : ℕ) (out : List ℕ) (r r′ : Answer) (a a′ : List ℕ)
-    → Seals key nonce ad m t out r a → Seals key nonce ad m t out r′ a′ → (r ≡ r′) × (a ≡ a′)
+pub seals-decided : (form : ℕ) (key nonce ad m : List ℕ) (t : ℕ) (out : List ℕ) (r r′ : Answer) (a a′ : List ℕ)
+    → Seals form key nonce ad m t out r a → Seals form key nonce ad m t out r′ a′ → (r ≡ r′) × (a ≡ a′)
 unfolding Seals
-seals-decided key nonce ad m t out =
-    by-seal (sealCheck (length key) (length nonce) t (length ad) (length m) (length out)) (sealing key nonce ad t m) out
+seals-decided form key nonce ad m t out =
+    by-seal (sealCheck form (length key) (length nonce) t (length ad) (length m) (length out)) (sealing form key nonce ad t m) out
 
 -- where sealing allows one answer alone
 by-open : (c : Check) (seal : List ℕ → List ℕ) (s out : List ℕ) → ((n : ℕ) → c ≡ pass n → (o p : Opened) → Allowed seal s o → Allowed seal s p → o ≡ p)
@@ -37,20 +38,20 @@ by-open (pass n) seal s out one r r′ a a′ p q =
     (p .2 ∙ ap (openedAs n) same ∙ sym (q .2), p .3 ∙ ap (λ (o : Opened). shown o n out) same ∙ sym (q .3))
 by-open (stop x) seal s out one r r′ a a′ p q = (p .0 ∙ sym (q .0), p .1 ∙ sym (q .1))
 
-pub opens-decided : (key nonce ad s : List ℕ) (t : ℕ) (out : List ℕ) (r r′ : Answer) (a a′ : List ℕ)
-    → Opens key nonce ad s t out r a → Opens key nonce ad s t out r′ a′ → (r ≡ r′) × (a ≡ a′)
+pub opens-decided : (form : ℕ) (key nonce ad s : List ℕ) (t : ℕ) (out : List ℕ) (r r′ : Answer) (a a′ : List ℕ)
+    → Opens form key nonce ad s t out r a → Opens form key nonce ad s t out r′ a′ → (r ≡ r′) × (a ≡ a′)
 unfolding Opens
-opens-decided key nonce ad s t out = by-open checks (sealing key nonce ad t) s out one
+opens-decided form key nonce ad s t out = by-open checks (sealing form key nonce ad t) s out one
   where
     checks : Check
-    checks = openCheck (length key) (length nonce) t (length ad) (length s) (length out)
+    checks = openCheck form (length key) (length nonce) t (length ad) (length s) (length out)
 
-    one : (n : ℕ) → checks ≡ pass n → (o p : Opened) → Allowed (sealing key nonce ad t) s o → Allowed (sealing key nonce ad t) s p → o ≡ p
-    one n e = go (open-verdict (length key) (length nonce) t (length ad) (length s) (length out))
+    one : (n : ℕ) → checks ≡ pass n → (o p : Opened) → Allowed (sealing form key nonce ad t) s o → Allowed (sealing form key nonce ad t) s p → o ≡ p
+    one n e = go (open-verdict form (length key) (length nonce) t (length ad) (length s) (length out))
       where
         go : Verdict
-            (Called (length key) (length nonce) t (length ad) × (t ≤ length s) × (length s ≤ 16384 + t) × (length s - t ≤ length out))
+            (Called form (length key) (length nonce) t (length ad) × (t ≤ length s) × (length s ≤ 16384 + t) × (length s - t ≤ length out))
             (length s - t) checks
-            → (o p : Opened) → Allowed (sealing key nonce ad t) s o → Allowed (sealing key nonce ad t) s p → o ≡ p
-        go (passes f w) = otr-one-answer (aes key) (aes-cipher key) nonce ad t (f .0 .nonces .1) (f .0 .tags .1) s
+            → (o p : Opened) → Allowed (sealing form key nonce ad t) s o → Allowed (sealing form key nonce ad t) s p → o ≡ p
+        go (passes f w) = otr-one-answer (aes key) (aes-cipher key) (formOf form) nonce ad t (f .0 .nonces .1) (f .0 .tags .1) s
         go (stops x z w) = λ o p q r. absurd (pass-or-stop n x (sym e ∙ w))

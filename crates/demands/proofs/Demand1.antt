@@ -1,11 +1,11 @@
--- Demand 1: whatever bytes and lengths come in, a call ends with done or one of the seven numbered refusals, in the fixed order.
--- Refusals 1 to 6 change no buffer. Refusal 7 sets the first bytes of the output, as many as the ciphertext has, to zero and
+-- Demand 1: whatever bytes and lengths come in, a call ends with done or one of the eight numbered refusals, in the fixed order, 8
+-- first. Refusals 8 and 1 to 6 change no buffer. Refusal 7 sets the first bytes of the output, as many as the ciphertext has, to zero and
 -- touches nothing behind them. Assumes nothing.
 use mathlib.Core.Path.{_≡_, refl, sym, ap, subst, _∙_}
 use mathlib.Core.Bool.{Bool, true, false, _||_}
 use mathlib.Core.Logic.{_⊎_, inl, inr}
 use mathlib.Core.List.{List, [], _∷_}
-use Prim.Native.Nat.{ℕ, suc, _+_, _-_, _≤_, _<_}
+use Prim.Native.Nat.{ℕ, _+_, _-_, _≤_}
 use native.Mathlib.Omega.{arith}
 use lib.Dec.{eqb, leb}
 use lib.ListN.{length}
@@ -16,27 +16,33 @@ use Rattle.link.specs.Answers.{numberOf, lengthOf}
 use Rattle.link.specs.Checks.{Check, pass, stop, from-to, unless, callCheck, sealCheck, openCheck, asAnswer}
 use Rattle.link.specs.Promises.{sealing, SealsBy, Seals, OpensBy, Opens}
 use Rattle.link.specs.declared.answer.Answer.{Answer}
-use Rattle.link.specs.declared.answer.Answer.the-variants.{Done, Key, Nonce, Tag, Data, Length, Room, Forged}
+use Rattle.link.specs.declared.answer.Answer.the-variants.{Done, Key, Nonce, Tag, Data, Length, Room, Forged, Form}
 use Rattle.link.proofs.Verdicts.{Verdict, passes, stops, Called, open-verdict}
 use Rattle.demands.specs.Calls.{firstFailing, sealChecks, openChecks}
 use Rattle.demands.proofs.Decided.{pass-or-stop}
 
 -- the checks as a list and as an answer agree in the number
-number-of : (a b c d e f : Bool) (n : ℕ)
-    → numberOf (asAnswer (unless a Key (unless b Nonce (unless c Tag (unless d Data (unless e Length (unless f Room (pass n)))))))) ≡ firstFailing 1 (a ∷ b ∷ c ∷ d ∷ e ∷ f ∷ [])
-number-of true true true true true true n = refl
-number-of true true true true true false n = refl
-number-of true true true true false f n = refl
-number-of true true true false e f n = refl
-number-of true true false d e f n = refl
-number-of true false c d e f n = refl
-number-of false b c d e f n = refl
+number-of : (a b c d e f g : Bool) (n : ℕ)
+    → numberOf (asAnswer (unless a Form (unless b Key (unless c Nonce (unless d Tag (unless e Data (unless f Length (unless g Room (pass n)))))))))
+    ≡ firstFailing ((8, a) ∷ (1, b) ∷ (2, c) ∷ (3, d) ∷ (4, e) ∷ (5, f) ∷ (6, g) ∷ [])
+number-of true true true true true true true n = refl
+number-of true true true true true true false n = refl
+number-of true true true true true false g n = refl
+number-of true true true true false f g n = refl
+number-of true true true false e f g n = refl
+number-of true true false d e f g n = refl
+number-of true false c d e f g n = refl
+number-of false b c d e f g n = refl
 
--- the first failing check is one of those listed
-first-below : (i : ℕ) (checks : List Bool) → 1 ≤ i → firstFailing i checks < i + length checks
-first-below i [] h = omega arith
-first-below i (true ∷ checks) h = omega (arith, first-below (suc i) checks (omega arith))
-first-below i (false ∷ checks) h = omega arith
+-- the first failing check is one of those listed: where none of them has the number k, it has not
+abbrev NoneIs : ℕ → List (ℕ × Bool) → Type 0
+NoneIs k [] = k ≡ 0 → ⊥
+NoneIs k ((n, b) ∷ checks) = (n ≡ k → ⊥) × NoneIs k checks
+
+not-first : (k : ℕ) (checks : List (ℕ × Bool)) → NoneIs k checks → firstFailing checks ≡ k → ⊥
+not-first k [] h e = h (sym e)
+not-first k ((n, true) ∷ checks) h e = not-first k checks (h .1) e
+not-first k ((n, false) ∷ checks) h e = h .0 e
 
 -- a refusal has length 0
 refusal-length : (r : Answer) → (numberOf r ≡ 0 → ⊥) → lengthOf r ≡ 0
@@ -48,6 +54,7 @@ refusal-length Data z = refl
 refusal-length Length z = refl
 refusal-length Room z = refl
 refusal-length Forged z = refl
+refusal-length Form z = refl
 
 -- ---- sealing
 by-seal : (c : Check) (bytes out : List ℕ) (r : Answer) (after : List ℕ) → SealsBy c bytes out r after
@@ -55,13 +62,13 @@ by-seal : (c : Check) (bytes out : List ℕ) (r : Answer) (after : List ℕ) →
 by-seal (pass n) bytes out r after p = (ap numberOf (p .0), λ z. absurd (z (ap numberOf (p .0))))
 by-seal (stop x) bytes out r after p = (ap numberOf (p .0), λ z. (refusal-length r z, p .1))
 
-pub sealing-answers : (key nonce ad m : List ℕ) (t : ℕ) (out : List ℕ) (r : Answer) (after : List ℕ) → Seals key nonce ad m t out r after
-    → (numberOf r ≡ firstFailing 1 (sealChecks key nonce ad m t out)) × ((numberOf r ≡ 0 → ⊥) → (lengthOf r ≡ 0) × (after ≡ out))
+pub sealing-answers : (form : ℕ) (key nonce ad m : List ℕ) (t : ℕ) (out : List ℕ) (r : Answer) (after : List ℕ) → Seals form key nonce ad m t out r after
+    → (numberOf r ≡ firstFailing (sealChecks form key nonce ad m t out)) × ((numberOf r ≡ 0 → ⊥) → (lengthOf r ≡ 0) × (after ≡ out))
 unfolding Seals sealCheck callCheck
-sealing-answers key nonce ad m t out r after p =
-    let q = by-seal (sealCheck (length key) (length nonce) t (length ad) (length m) (length out)) (sealing key nonce ad t m) out r after p in (
+sealing-answers form key nonce ad m t out r after p =
+    let q = by-seal (sealCheck form (length key) (length nonce) t (length ad) (length m) (length out)) (sealing form key nonce ad t m) out r after p in (
       q .0
-          ∙ number-of (eqb (length key) 16 || (eqb (length key) 24 || eqb (length key) 32)) (from-to 1 15 (length nonce)) (from-to 4 16 t) (leb (length ad) 4096)
+          ∙ number-of (leb form 1) (eqb (length key) 16 || (eqb (length key) 24 || eqb (length key) 32)) (from-to 1 15 (length nonce)) (from-to 4 16 t) (leb (length ad) 4096)
           (leb (length m) 16384) (leb (length m + t) (length out)) (length m + t),
       q .1,
     )
@@ -120,30 +127,33 @@ module _ (P : Type 0) (n : ℕ) (c : Check) (v : Verdict P n c) where
           let yx : y ≡ x = cc in
           z (ap numberOf yx ∙ k)
 
-pub opening-answers : (key nonce ad s : List ℕ) (t : ℕ) (out : List ℕ) (r : Answer) (after : List ℕ) → Opens key nonce ad s t out r after
-    → Answers (firstFailing 1 (openChecks key nonce ad s t out)) (length s - t) out r after
+pub opening-answers : (form : ℕ) (key nonce ad s : List ℕ) (t : ℕ) (out : List ℕ) (r : Answer) (after : List ℕ) → Opens form key nonce ad s t out r after
+    → Answers (firstFailing (openChecks form key nonce ad s t out)) (length s - t) out r after
 unfolding Opens openCheck callCheck
-opening-answers key nonce ad s t out r after p =
+opening-answers form key nonce ad s t out r after p =
     subst (λ (i : ℕ). Answers i (length s - t) out r after) number
-    (by-open checks (length s - t) (sealing key nonce ad t) s out r after not7
+    (by-open checks (length s - t) (sealing form key nonce ad t) s out r after not7
     (pass-is Fits (length s - t) checks verdict) (stop-is Fits (length s - t) checks verdict) p)
   where
     key-in : Bool
     key-in = eqb (length key) 16 || (eqb (length key) 24 || eqb (length key) 32)
 
     checks : Check
-    checks = openCheck (length key) (length nonce) t (length ad) (length s) (length out)
+    checks = openCheck form (length key) (length nonce) t (length ad) (length s) (length out)
 
     Fits : Type 0
-    Fits = Called (length key) (length nonce) t (length ad) × (t ≤ length s) × (length s ≤ 16384 + t) × (length s - t ≤ length out)
+    Fits = Called form (length key) (length nonce) t (length ad) × (t ≤ length s) × (length s ≤ 16384 + t) × (length s - t ≤ length out)
 
     verdict : Verdict Fits (length s - t) checks
-    verdict = open-verdict (length key) (length nonce) t (length ad) (length s) (length out)
+    verdict = open-verdict form (length key) (length nonce) t (length ad) (length s) (length out)
 
-    number : numberOf (asAnswer checks) ≡ firstFailing 1 (openChecks key nonce ad s t out)
+    number : numberOf (asAnswer checks) ≡ firstFailing (openChecks form key nonce ad s t out)
     number =
-        number-of key-in (from-to 1 15 (length nonce)) (from-to 4 16 t) (leb (length ad) 4096) (from-to t (16384 + t) (length s))
+        number-of (leb form 1) key-in (from-to 1 15 (length nonce)) (from-to 4 16 t) (leb (length ad) 4096) (from-to t (16384 + t) (length s))
         (leb (length s - t) (length out)) (length s - t)
 
     not7 : numberOf (asAnswer checks) ≡ 7 → ⊥
-    not7 h = omega (arith, first-below 1 (openChecks key nonce ad s t out) (omega arith), number)
+    not7 h =
+        not-first 7 (openChecks form key nonce ad s t out)
+        (λ z. omega arith, (λ z. omega arith, (λ z. omega arith, (λ z. omega arith, (λ z. omega arith, (λ z. omega arith, (λ z. omega arith, (λ z. omega arith))))))))
+        (sym number ∙ h)

@@ -16,18 +16,18 @@ known k (inr (inr e)) = rw e
 range : (l h a : ℕ) → l ≤ a → a ≤ h → from-to l h a ≡ true
 range l h a p q = ap₂ _&&_ (le-leb l a p) (le-leb a h q)
 
-module _ (key nonce t ad : ℕ) where
-  call-passes : (next : Check) → Limits key nonce t ad → callCheck key nonce t ad next ≡ next
+module _ (form key nonce t ad : ℕ) where
+  call-passes : (next : Check) → Limits form key nonce t ad → callCheck form key nonce t ad next ≡ next
   unfolding callCheck
   call-passes next f =
-      rw (known key (f .keys), range 1 15 nonce (f .nonces .0) (f .nonces .1), range 4 16 t (f .tags .0) (f .tags .1), le-leb ad 4096 (f .most))
+      rw (le-leb form 1 (f .forms), known key (f .keys), range 1 15 nonce (f .nonces .0) (f .nonces .1), range 4 16 t (f .tags .0) (f .tags .1), le-leb ad 4096 (f .most))
 
-  pub seal-passes : (m o : ℕ) → Limits key nonce t ad → m ≤ 16384 → m + t ≤ o → sealCheck key nonce t ad m o ≡ pass (m + t)
+  pub seal-passes : (m o : ℕ) → Limits form key nonce t ad → m ≤ 16384 → m + t ≤ o → sealCheck form key nonce t ad m o ≡ pass (m + t)
   unfolding sealCheck
   seal-passes m o f p q =
       call-passes (sealNext t m o) f ∙ rw (le-leb m 16384 p, le-leb (m + t) o q)
 
-  pub open-passes : (s o : ℕ) → Limits key nonce t ad → t ≤ s → s ≤ 16384 + t → s - t ≤ o → openCheck key nonce t ad s o ≡ pass (s - t)
+  pub open-passes : (s o : ℕ) → Limits form key nonce t ad → t ≤ s → s ≤ 16384 + t → s - t ≤ o → openCheck form key nonce t ad s o ≡ pass (s - t)
   unfolding openCheck
   open-passes s o f p q r =
       call-passes (openNext t s o) f ∙ rw (range t (16384 + t) s p q, le-leb (s - t) o r)

@@ -1,6 +1,7 @@
--- Answers for nonces of 1 to 14 bytes don't change (document 02, wish 5). Where the nonce has at most 14 bytes, the promises are what
--- they were when check 2 ended at 14 and the nonce block was the tag byte, zeros, 01 and the nonce. Assumes nothing.
-use mathlib.Core.Path.{_≡_, sym, ap, ap₂, _∙_}
+-- What does not change. A call in the parallel form is what a call was before the form was named (document 02, wish 1); and where its
+-- nonce has at most 14 bytes it is what it was when check 2 ended at 14 and the nonce block was the tag byte, zeros, 01 and the nonce
+-- (wish 5). Assumes nothing.
+use mathlib.Core.Path.{_≡_, refl, sym, ap, ap₂, _∙_}
 use mathlib.Core.Bool.{Bool, _&&_, _||_}
 use mathlib.Core.List.{List}
 use Prim.Native.Nat.{ℕ, _≤_}
@@ -8,9 +9,12 @@ use native.Mathlib.Omega.{arith}
 use lib.Dec.{eqb, leb}
 use lib.ListN.{length}
 use borrow.Author.Tests.{le-leb}
+use Rattle.lists.specs.Zeros.{zeros}
 use Rattle.aes.specs.Expansion.{aes}
+use Rattle.mode.specs.Form.{parallel}
 use Rattle.mode.specs.Masks.{third}
-use Rattle.mode.specs.Data.{ta}
+use Rattle.mode.specs.Data.{dataPass, ta}
+use Rattle.mode.specs.Nonce.{format}
 use Rattle.mode.specs.Sealing.{sealed, otr}
 use Rattle.mode.proofs.Format.{formatWas, as-it-was}
 use Rattle.link.specs.Checks.{Check, from-to, unless, callCheck, sealNext, sealCheck, openNext, openCheck}
@@ -18,42 +22,53 @@ use Rattle.link.specs.Promises.{SealsBy, Seals, OpensBy, Opens}
 use Rattle.link.specs.declared.answer.Answer.{Answer}
 use Rattle.link.specs.declared.answer.Answer.the-variants.{Key, Nonce, Tag, Data}
 
--- ---- what was: what a message seals to, from the nonce block as it was; and checks 1 to 4
+-- ---- what was: what a message seals to, from the nonce block b; and checks 1 to 4, for nonces of at most k bytes
 abbrev pub otrWas : (List ℕ → List ℕ) → List ℕ → List ℕ → ℕ → List ℕ → List ℕ
-otrWas E nonce ad t m = sealed E (third (E (formatWas t nonce))) (ta E ad) t m
+otrWas E b ad t m = sealed E (third (E b)) (ta E (dataPass E (E (zeros 16)) parallel) ad) t m
 
-abbrev pub callCheckWas : ℕ → ℕ → ℕ → ℕ → Check → Check
-callCheckWas key nonce t ad next =
+abbrev pub callCheckWas : ℕ → ℕ → ℕ → ℕ → ℕ → Check → Check
+callCheckWas k key nonce t ad next =
     unless (eqb key 16 || (eqb key 24 || eqb key 32)) Key
-    (unless (from-to 1 14 nonce) Nonce
+    (unless (from-to 1 k nonce) Nonce
     (unless (from-to 4 16 t) Tag
     (unless (leb ad 4096) Data next)))
 
--- ---- what is, for at most 14 bytes
-range-is : (nonce : ℕ) → nonce ≤ 14 → from-to 1 15 nonce ≡ from-to 1 14 nonce
-range-is nonce h = ap (λ (b : Bool). leb 1 nonce && b) (le-leb nonce 15 (omega arith) ∙ sym (le-leb nonce 14 h))
+module _ (key nonce ad : List ℕ) (t : ℕ) (out : List ℕ) (r : Answer) (after : List ℕ) where
+  -- the promises for nonces of at most k bytes, with the nonce block b
+  abbrev pub SealsWas : ℕ → List ℕ → List ℕ → Type 0
+  SealsWas k b m =
+      SealsBy (callCheckWas k (length key) (length nonce) t (length ad) (sealNext t (length m) (length out))) (otrWas (aes key) b ad t m) out r after
 
-check-is : (key nonce t ad : ℕ) (next : Check) → nonce ≤ 14 → callCheck key nonce t ad next ≡ callCheckWas key nonce t ad next
-unfolding callCheck
-check-is key nonce t ad next h = rw (range-is nonce h)
+  abbrev pub OpensWas : ℕ → List ℕ → List ℕ → Type 0
+  OpensWas k b s =
+      OpensBy (callCheckWas k (length key) (length nonce) t (length ad) (openNext t (length s) (length out))) (otrWas (aes key) b ad t) s out r after
 
-module _ (nonce : List ℕ) (h : length nonce ≤ 14) where
-  otr-is : (E : List ℕ → List ℕ) (ad : List ℕ) (t : ℕ) → otr E nonce ad t ≡ otrWas E nonce ad t
-  otr-is E ad t = ap (λ (b : List ℕ). sealed E (third (E b)) (ta E ad) t) (as-it-was t nonce h)
+  -- ---- the parallel form, before the form was named
+  pub seals-parallel : (m : List ℕ) → Seals 0 key nonce ad m t out r after ≡ SealsWas 15 (format t nonce) m
+  unfolding Seals sealCheck callCheck
+  seals-parallel m = refl
 
-  module _ (key ad : List ℕ) (t : ℕ) (out : List ℕ) (r : Answer) (after : List ℕ) where
-    pub seals-unchanged : (m : List ℕ)
-        → Seals key nonce ad m t out r after
-        ≡ SealsBy (callCheckWas (length key) (length nonce) t (length ad) (sealNext t (length m) (length out))) (otrWas (aes key) nonce ad t m) out r after
-    unfolding Seals sealCheck
+  pub opens-parallel : (s : List ℕ) → Opens 0 key nonce ad s t out r after ≡ OpensWas 15 (format t nonce) s
+  unfolding Opens openCheck callCheck
+  opens-parallel s = refl
+
+  -- ---- nonces of at most 14 bytes, before those of 15
+  module _ (h : length nonce ≤ 14) where
+    range-is : from-to 1 15 (length nonce) ≡ from-to 1 14 (length nonce)
+    range-is = ap (λ (b : Bool). leb 1 (length nonce) && b) (le-leb (length nonce) 15 (omega arith) ∙ sym (le-leb (length nonce) 14 h))
+
+    check-is : (next : Check) → callCheckWas 15 (length key) (length nonce) t (length ad) next ≡ callCheckWas 14 (length key) (length nonce) t (length ad) next
+    check-is next = rw range-is
+
+    otr-is : otrWas (aes key) (format t nonce) ad t ≡ otrWas (aes key) (formatWas t nonce) ad t
+    otr-is = ap (λ (b : List ℕ). otrWas (aes key) b ad t) (as-it-was t nonce h)
+
+    pub seals-unchanged : (m : List ℕ) → Seals 0 key nonce ad m t out r after ≡ SealsWas 14 (formatWas t nonce) m
     seals-unchanged m =
-        ap₂ (λ (c : Check) (seal : List ℕ → List ℕ). SealsBy c (seal m) out r after)
-        (check-is (length key) (length nonce) t (length ad) (sealNext t (length m) (length out)) h) (otr-is (aes key) ad t)
+        seals-parallel m
+        ∙ ap₂ (λ (c : Check) (seal : List ℕ → List ℕ). SealsBy c (seal m) out r after) (check-is (sealNext t (length m) (length out))) otr-is
 
-    pub opens-unchanged : (s : List ℕ)
-        → Opens key nonce ad s t out r after
-        ≡ OpensBy (callCheckWas (length key) (length nonce) t (length ad) (openNext t (length s) (length out))) (otrWas (aes key) nonce ad t) s out r after
-    unfolding Opens openCheck
+    pub opens-unchanged : (s : List ℕ) → Opens 0 key nonce ad s t out r after ≡ OpensWas 14 (formatWas t nonce) s
     opens-unchanged s =
-        ap₂ (λ (c : Check) (seal : List ℕ → List ℕ). OpensBy c seal s out r after)
-        (check-is (length key) (length nonce) t (length ad) (openNext t (length s) (length out)) h) (otr-is (aes key) ad t)
+        opens-parallel s
+        ∙ ap₂ (λ (c : Check) (seal : List ℕ → List ℕ). OpensBy c seal s out r after) (check-is (openNext t (length s) (length out))) otr-is

@@ -1,7 +1,7 @@
--- Document 01, 'What comes back': the number and the length of each answer.
+-- Document 01, 'What comes back', and document 02, wish 1: the number and the length of each answer.
 use Prim.Native.Nat.{ℕ}
 use Rattle.link.specs.declared.answer.Answer.{Answer}
-use Rattle.link.specs.declared.answer.Answer.the-variants.{Done, Key, Nonce, Tag, Data, Length, Room, Forged}
+use Rattle.link.specs.declared.answer.Answer.the-variants.{Done, Key, Nonce, Tag, Data, Length, Room, Forged, Form}
 
 abbrev pub numberOf : Answer → ℕ
 numberOf (Done n) = 0
@@ -12,6 +12,7 @@ numberOf Data = 4
 numberOf Length = 5
 numberOf Room = 6
 numberOf Forged = 7
+numberOf Form = 8
 
 abbrev pub lengthOf : Answer → ℕ
 lengthOf (Done n) = n
@@ -22,3 +23,4 @@ lengthOf Data = 0
 lengthOf Length = 0
 lengthOf Room = 0
 lengthOf Forged = 0
+lengthOf Form = 0

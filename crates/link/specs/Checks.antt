@@ -1,11 +1,11 @@
--- Document 01, 'Numbers a call may carry' and 'What comes back', with nonces of 1 to 15 bytes (document 02, wish 5): the checks 1 to
--- 6, in the order of their numbers. Each goes by lengths alone: of the key, the nonce, the tag, the associated data, the message or the
--- sealed bytes, and the output.
+-- Document 01, 'Numbers a call may carry' and 'What comes back', with the form (document 02, wish 1) and nonces of 1 to 15 bytes
+-- (wish 5): check 8, and then 1 to 6 in the order of their numbers. They go by the form's number and by lengths alone: of the key, the
+-- nonce, the tag, the associated data, the message or the sealed bytes, and the output.
 use mathlib.Core.Bool.{Bool, true, false, _&&_, _||_}
 use Prim.Native.Nat.{ℕ, _+_, _-_}
 use lib.Dec.{eqb, leb}
 use Rattle.link.specs.declared.answer.Answer.{Answer}
-use Rattle.link.specs.declared.answer.Answer.the-variants.{Done, Key, Nonce, Tag, Data, Length, Room}
+use Rattle.link.specs.declared.answer.Answer.the-variants.{Done, Key, Nonce, Tag, Data, Length, Room, Form}
 
 -- a is from l to h
 abbrev pub from-to : ℕ → ℕ → ℕ → Bool
@@ -20,27 +20,28 @@ abbrev pub unless : Bool → Answer → Check → Check
 unless true r next = next
 unless false r next = stop r
 
--- checks 1 to 4, which sealing and opening share, and what comes after them
-unfoldable pub callCheck : ℕ → ℕ → ℕ → ℕ → Check → Check
-callCheck key nonce t ad next =
-    unless (eqb key 16 || (eqb key 24 || eqb key 32)) Key
+-- checks 8 and 1 to 4, which sealing and opening share, and what comes after them
+unfoldable pub callCheck : ℕ → ℕ → ℕ → ℕ → ℕ → Check → Check
+callCheck form key nonce t ad next =
+    unless (leb form 1) Form
+    (unless (eqb key 16 || (eqb key 24 || eqb key 32)) Key
     (unless (from-to 1 15 nonce) Nonce
     (unless (from-to 4 16 t) Tag
-    (unless (leb ad 4096) Data next)))
+    (unless (leb ad 4096) Data next))))
 
--- sealing a message of m bytes into o bytes: checks 5 and 6, and all six
+-- sealing a message of m bytes into o bytes: checks 5 and 6, and all seven
 abbrev pub sealNext : ℕ → ℕ → ℕ → Check
 sealNext t m o = unless (leb m 16384) Length (unless (leb (m + t) o) Room (pass (m + t)))
 
-unfoldable pub sealCheck : ℕ → ℕ → ℕ → ℕ → ℕ → ℕ → Check
-sealCheck key nonce t ad m o = callCheck key nonce t ad (sealNext t m o)
+unfoldable pub sealCheck : ℕ → ℕ → ℕ → ℕ → ℕ → ℕ → ℕ → Check
+sealCheck form key nonce t ad m o = callCheck form key nonce t ad (sealNext t m o)
 
--- opening s sealed bytes into o bytes: checks 5 and 6, and all six
+-- opening s sealed bytes into o bytes: checks 5 and 6, and all seven
 abbrev pub openNext : ℕ → ℕ → ℕ → Check
 openNext t s o = unless (from-to t (16384 + t) s) Length (unless (leb (s - t) o) Room (pass (s - t)))
 
-unfoldable pub openCheck : ℕ → ℕ → ℕ → ℕ → ℕ → ℕ → Check
-openCheck key nonce t ad s o = callCheck key nonce t ad (openNext t s o)
+unfoldable pub openCheck : ℕ → ℕ → ℕ → ℕ → ℕ → ℕ → ℕ → Check
+openCheck form key nonce t ad s o = callCheck form key nonce t ad (openNext t s o)
 
 -- a check as an answer
 abbrev pub asAnswer : Check → Answer

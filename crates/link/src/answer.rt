@@ -5,7 +5,7 @@ ghost use Rattle.link.specs.Answers.{numberOf, lengthOf};
 pub enum Answer {
     // Done, with the number of bytes written.
     Done(usize),
-    // The refusals 1 to 7, in their order.
+    // The refusals 1 to 8, in the order of their numbers.
     Key,
     Nonce,
     Tag,
@@ -13,6 +13,7 @@ pub enum Answer {
     Length,
     Room,
     Forged,
+    Form,
 }
 
 pub fn number(a: Answer) -> usize
@@ -27,6 +28,7 @@ pub fn number(a: Answer) -> usize
         Answer::Length => 5,
         Answer::Room => 6,
         Answer::Forged => 7,
+        Answer::Form => 8,
     }
 }
 
@@ -42,5 +44,6 @@ pub fn length(a: Answer) -> usize
         Answer::Length => 0,
         Answer::Room => 0,
         Answer::Forged => 0,
+        Answer::Form => 0,
     }
 }

@@ -1,4 +1,4 @@
-// The checks 1 to 6, in the order of their numbers. They go by lengths alone.
+// Check 8, and then 1 to 6 in the order of their numbers. They go by the form's number and by lengths alone.
 ghost use mathlib.Core.Path.{_≡_};
 ghost use Rattle.link.specs.Checks.{from-to as between, pass, callCheck, sealCheck, openCheck, asAnswer};
 use crate::answer::Answer;
@@ -16,9 +16,12 @@ fn from_to(l: usize, h: usize, a: usize) -> bool
 }
 
 // The checks that sealing and opening share.
-fn call_check(key: usize, nonce: usize, tag: usize, ad: usize) -> Answer
-    ensures { λ r. ⌜ r ≡ asAnswer (callCheck key nonce tag ad (pass 0)) ⌝ }
+fn call_check(form: usize, key: usize, nonce: usize, tag: usize, ad: usize) -> Answer
+    ensures { λ r. ⌜ r ≡ asAnswer (callCheck form key nonce tag ad (pass 0)) ⌝ }
 {
+    if 1 < form {
+        return Answer::Form;
+    }
     let size = aes::key_size(key);
     let KeySize::Known {
         rounds: _,
@@ -40,6 +43,7 @@ fn call_check(key: usize, nonce: usize, tag: usize, ad: usize) -> Answer
 }
 
 pub fn seal_check(
+    form: usize,
     key: usize,
     nonce: usize,
     tag: usize,
@@ -47,9 +51,9 @@ pub fn seal_check(
     message: usize,
     room: usize,
 ) -> Answer
-    ensures { λ r. ⌜ r ≡ asAnswer (sealCheck key nonce tag ad message room) ⌝ }
+    ensures { λ r. ⌜ r ≡ asAnswer (sealCheck form key nonce tag ad message room) ⌝ }
 {
-    let first = call_check(key, nonce, tag, ad);
+    let first = call_check(form, key, nonce, tag, ad);
     if number(first) != 0 {
         return first;
     }
@@ -63,6 +67,7 @@ pub fn seal_check(
 }
 
 pub fn open_check(
+    form: usize,
     key: usize,
     nonce: usize,
     tag: usize,
@@ -70,9 +75,9 @@ pub fn open_check(
     sealed: usize,
     room: usize,
 ) -> Answer
-    ensures { λ r. ⌜ r ≡ asAnswer (openCheck key nonce tag ad sealed room) ⌝ }
+    ensures { λ r. ⌜ r ≡ asAnswer (openCheck form key nonce tag ad sealed room) ⌝ }
 {
-    let first = call_check(key, nonce, tag, ad);
+    let first = call_check(form, key, nonce, tag, ad);
     if number(first) != 0 {
         return first;
     }

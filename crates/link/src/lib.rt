@@ -1,5 +1,5 @@
-// The sealed link: AES-OTR v3.1 with parallel associated data, sealed and opened in one call each. Neither entry point asks
-// anything of its caller; what they promise is in specs/Promises.antt.
+// The sealed link: AES-OTR v3.1, sealed and opened in one call each, with parallel (form 0) or serial (form 1) associated data. Neither
+// entry point asks anything of its caller; what they promise is in specs/Promises.antt.
 ghost use Rattle.link.specs.Promises.{Seals, Opens};
 
 mod answer;
@@ -12,6 +12,7 @@ pub use answer::number;
 pub use parameters::Parameters;
 
 pub fn seal(
+    form: usize,
     key: &[u8],
     nonce: &[u8],
     ad: &[u8],
@@ -19,9 +20,10 @@ pub fn seal(
     tag: usize,
     out: &mut [u8],
 ) -> Answer
-    ensures { λ r. ⌜ Seals (now (key .entry)) (now (nonce .entry)) (now (ad .entry)) (now (message .entry)) tag (now (out .entry)) r (now (out .exit)) ⌝ }
+    ensures { λ r. ⌜ Seals form (now (key .entry)) (now (nonce .entry)) (now (ad .entry)) (now (message .entry)) tag (now (out .entry)) r (now (out .exit)) ⌝ }
 {
     let answer = check::seal_check(
+        form,
         key.len(),
         nonce.len(),
         tag,
@@ -36,11 +38,12 @@ pub fn seal(
     let keys = aes::expand(&table, key);
     let nr = keys.rounds;
     let w = keys.words;
-    passes::seal(&table, &w, nr, nonce, ad, message, tag, out);
+    passes::seal(form, &table, &w, nr, nonce, ad, message, tag, out);
     answer
 }
 
 pub fn open(
+    form: usize,
     key: &[u8],
     nonce: &[u8],
     ad: &[u8],
@@ -48,9 +51,10 @@ pub fn open(
     tag: usize,
     out: &mut [u8],
 ) -> Answer
-    ensures { λ r. ⌜ Opens (now (key .entry)) (now (nonce .entry)) (now (ad .entry)) (now (sealed .entry)) tag (now (out .entry)) r (now (out .exit)) ⌝ }
+    ensures { λ r. ⌜ Opens form (now (key .entry)) (now (nonce .entry)) (now (ad .entry)) (now (sealed .entry)) tag (now (out .entry)) r (now (out .exit)) ⌝ }
 {
     let answer = check::open_check(
+        form,
         key.len(),
         nonce.len(),
         tag,
@@ -65,7 +69,7 @@ pub fn open(
     let keys = aes::expand(&table, key);
     let nr = keys.rounds;
     let w = keys.words;
-    if passes::open(&table, &w, nr, nonce, ad, sealed, tag, out) {
+    if passes::open(form, &table, &w, nr, nonce, ad, sealed, tag, out) {
         return answer;
     }
     Answer::Forged

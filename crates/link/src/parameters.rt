@@ -1,5 +1,7 @@
-// The four named parameter sets (source document 000, section 1.2). The serial two are named only: nothing runs them yet.
+// The four named parameter sets (source document 000, section 1.2): the numbers that a call takes, and its form.
 pub struct Parameters {
+    // 0 is parallel, 1 serial.
+    pub form: usize,
     pub key: usize,
     pub nonce: usize,
     pub tag: usize,
@@ -7,24 +9,28 @@ pub struct Parameters {
 
 impl Parameters {
     pub const AES128OTRPV1: Parameters = Parameters {
+        form: 0,
         key: 16,
         nonce: 12,
         tag: 16,
     };
 
     pub const AES128OTRSV1: Parameters = Parameters {
+        form: 1,
         key: 16,
         nonce: 12,
         tag: 16,
     };
 
     pub const AES256OTRPV1: Parameters = Parameters {
+        form: 0,
         key: 32,
         nonce: 12,
         tag: 16,
     };
 
     pub const AES256OTRSV1: Parameters = Parameters {
+        form: 1,
         key: 32,
         nonce: 12,
         tag: 16,

@@ -1,17 +1,20 @@
 -- The definitions computed: the nonce block, held to rows W8 to W10 of document 01 and to document 02's wish 5; and all of them over a
 -- small stand-in cipher, held to what the second program gives. Assumes nothing.
 use mathlib.Core.Path.{_≡_, refl}
+use mathlib.Core.Bool.{Bool, true, false}
 use mathlib.Core.List.{List, [], _∷_, map, zipWith}
-use Prim.Native.Nat.{ℕ, _+_, _*_, _%_}
+use Prim.Native.Nat.{ℕ, zero, suc, _+_, _*_, _%_}
+use lib.Dec.{eqb}
 use lib.ListN.{getD}
 use Rattle.lists.specs.Hex.{bytes}
 use Rattle.lists.specs.Table.{table, tableFrom}
 use Rattle.lists.specs.Xor.{xor}
 use Rattle.lists.specs.Zeros.{zeros}
 use Rattle.block.specs.Block.{pad, shift, double}
+use Rattle.mode.specs.Form.{formOf}
 use Rattle.mode.specs.Masks.{doubles}
 use Rattle.mode.specs.Message.{blocks, pairsOf, even, short, sum, pairs, body, checksum, te}
-use Rattle.mode.specs.Data.{dataSum, ta}
+use Rattle.mode.specs.Data.{dataSum, chain, ta}
 use Rattle.mode.specs.Nonce.{format}
 use Rattle.mode.specs.Sealing.{tag, sealed, otr}
 use Rattle.mode.proofs.Expected.{Row, expected}
@@ -37,12 +40,34 @@ standIn b = table (λ i. (5 * getD b i 0 + 3 * getD b ((i + 1) % 16) 0 + 7 * i +
 
 -- the row, sealed: byte i of the message is 7i + 3, of the data 11i + 5, of the nonce 13i + 1
 pub computed : Row → List ℕ
-computed (m, a, k, t, x) =
-    otr standIn (table (λ i. (13 * i + 1) % 256) k) (table (λ i. (11 * i + 5) % 256) a) t (table (λ i. (7 * i + 3) % 256) m)
+computed (f, m, a, k, t, x) =
+    otr standIn (formOf f) (table (λ i. (13 * i + 1) % 256) k) (table (λ i. (11 * i + 5) % 256) a) t (table (λ i. (7 * i + 3) % 256) m)
 
 pub given : Row → List ℕ
-given (m, a, k, t, x) = bytes (m + t) x
+given (f, m, a, k, t, x) = bytes (m + t) x
 
-pub rows : map computed expected ≡ map given expected
-unfolding computed given standIn tableFrom xor zeros pad shift double doubles blocks pairsOf even short sum pairs body checksum te dataSum ta zipWith format tag sealed
-rows = refl
+-- the rows of one kind: parallel, serial without data, serial with data
+abbrev pub kind : Row → ℕ
+kind (zero, m, a, k, t, x) = 0
+kind (suc f, m, zero, k, t, x) = 1
+kind (suc f, m, suc a, k, t, x) = 2
+
+abbrev pub keep : Bool → Row → List Row → List Row
+keep true row others = row ∷ others
+keep false row others = others
+
+pub of : ℕ → List Row → List Row
+of i [] = []
+of i (row ∷ others) = keep (eqb (kind row) i) row (of i others)
+
+pub parallel-rows : map computed (of 0 expected) ≡ map given (of 0 expected)
+unfolding of computed given standIn tableFrom xor zeros pad shift double doubles blocks pairsOf even short sum pairs body checksum te dataSum chain ta zipWith format tag sealed
+parallel-rows = refl
+
+pub serial-rows-without-data : map computed (of 1 expected) ≡ map given (of 1 expected)
+unfolding of computed given standIn tableFrom xor zeros pad shift double doubles blocks pairsOf even short sum pairs body checksum te dataSum chain ta zipWith format tag sealed
+serial-rows-without-data = refl
+
+pub serial-rows-with-data : map computed (of 2 expected) ≡ map given (of 2 expected)
+unfolding of computed given standIn tableFrom xor zeros pad shift double doubles blocks pairsOf even short sum pairs body checksum te dataSum chain ta zipWith format tag sealed
+serial-rows-with-data = refl

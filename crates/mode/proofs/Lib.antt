@@ -8,4 +8,6 @@ pub mod Tag
 pub mod Parts
 pub mod Opens
 pub mod Format
+pub mod Form
+pub mod Data
 pub mod Third

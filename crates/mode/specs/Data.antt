@@ -1,4 +1,5 @@
--- The associated data pass with parallel data (document 01; source document 000, Fig. 1, AF), over any cipher E.
+-- The associated data pass in both forms (document 01; source document 000, Fig. 1, AF, and Fig. 3, AF-S), over any cipher E and any
+-- first Q, here q; in both figures, line 2, it is E(0ⁿ).
 use mathlib.Core.Bool.{Bool, true, false}
 use mathlib.Core.List.{List, [], _∷_}
 use Prim.Native.Nat.{ℕ, zero, suc, _-_, _*_}
@@ -6,30 +7,50 @@ use lib.Dec.{ltb}
 use lib.ListN.{length, drop}
 use Rattle.lists.specs.Xor.{xor}
 use Rattle.lists.specs.Zeros.{zeros}
-use Rattle.block.specs.Block.{pad, triple, tripleTwice}
+use Rattle.block.specs.Block.{pad, double, triple, tripleTwice}
+use Rattle.mode.specs.Form.{Form, parallel, serial}
 use Rattle.mode.specs.Masks.{doubles}
 use Rattle.mode.specs.Message.{blocks, block}
 
--- line 8: 3Q for a short last block, 3²Q for a full one
+-- what a form says of the pass: Ξ behind the first n blocks of the data, and the mask of a last block behind those, by whether it is
+-- short
+pub record DataPass : Type 0 where
+  pub xi : ℕ → List ℕ → List ℕ
+  pub mask : ℕ → Bool → List ℕ
+
+-- ---- parallel (AF)
+-- lines 8 and 9: 3Q for a short last block, 3²Q for a full one
 abbrev pub dataFinal : Bool → List ℕ → List ℕ
 dataFinal true x = triple x
 dataFinal false x = tripleTwice x
 
-module _ (E : List ℕ → List ℕ) where
-  -- lines 2 and 6: Q after i doublings
-  abbrev pub q : ℕ → List ℕ
-  q i = doubles i (E (zeros 16))
+-- lines 1, 4, 5 and 6: the first n blocks, each with its own Q
+unfoldable pub dataSum : (List ℕ → List ℕ) → List ℕ → ℕ → List ℕ → List ℕ
+dataSum E q zero a = zeros 16
+dataSum E q (suc n) a = xor (dataSum E q n a) (E (xor (doubles n q) (block a (16 * n))))
 
-  -- lines 1, 4 and 5: the first n blocks
-  unfoldable pub dataSum : ℕ → List ℕ → List ℕ
-  dataSum zero a = zeros 16
-  dataSum (suc n) a = xor (dataSum n a) (E (xor (q n) (block a (16 * n))))
+-- ---- serial (AF-S)
+-- lines 7 and 8: 2Q for a short last block, 4Q for a full one
+abbrev pub chainFinal : Bool → List ℕ → List ℕ
+chainFinal true q = double q
+chainFinal false q = double (double q)
 
-  -- lines 7 to 10: n blocks, and a last block x
+-- lines 1, 4 and 5: the first n blocks, each into the cipher with what came out before it
+unfoldable pub chain : (List ℕ → List ℕ) → ℕ → List ℕ → List ℕ
+chain E zero a = zeros 16
+chain E (suc n) a = E (xor (block a (16 * n)) (chain E n a))
+
+-- ---- either
+abbrev pub dataPass : (List ℕ → List ℕ) → List ℕ → Form → DataPass
+dataPass E q parallel = record { xi = dataSum E q; mask = λ n s. dataFinal s (doubles n q) }
+dataPass E q serial = record { xi = chain E; mask = λ n s. chainFinal s q }
+
+module _ (E : List ℕ → List ℕ) (d : DataPass) where
+  -- AF, lines 7 to 10; AF-S, lines 6 to 9: n blocks, and a last block x
   abbrev pub dataEnd : ℕ → List ℕ → List ℕ → List ℕ
-  dataEnd n a x = E (xor (dataFinal (ltb (length x) 16) (q n)) (xor (dataSum n a) (pad x)))
+  dataEnd n a x = E (xor (d .mask n (ltb (length x) 16)) (xor (d .xi n a) (pad x)))
 
-  -- TA; empty data gives zeros, and no block is ciphered (OTR-E, lines 2 and 3)
+  -- TA; empty data gives zeros, and no block is ciphered (OTR-E, Fig. 1, lines 2 and 3; Fig. 3, lines 1 and 2)
   unfoldable pub ta : List ℕ → List ℕ
   ta [] = zeros 16
   ta (b ∷ bs) =

@@ -1,3 +1,4 @@
+pub mod Form
 pub mod Masks
 pub mod Message
 pub mod Data

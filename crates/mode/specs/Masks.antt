@@ -37,6 +37,6 @@ doubled l r =
       ifFull = seven;
     }
 
--- AES-OTR v3.1 (000, Fig. 1, EF, lines 2, 8, 19 and 20): L = 2ⁱU and L′ = 2ⁱ3U
+-- AES-OTR v3.1 (000, Fig. 1, EF, lines 2, 8, 19 and 20; Fig. 3, EF-S, lines 3, 9, 20 and 21): L = 2ⁱU and L′ = 2ⁱ3U
 abbrev pub third : List ℕ → Masks
 third u = doubled u (triple u)

@@ -1,14 +1,17 @@
--- What sealing gives: the ciphertext, and the tag behind it (source document 000, Fig. 1, OTR-E).
+-- What sealing gives: the ciphertext, and the tag behind it (source document 000, OTR-E in Fig. 1 and Fig. 3).
 use mathlib.Core.List.{List, _++_}
 use Prim.Native.Nat.{ℕ}
 use lib.ListN.{take}
 use Rattle.lists.specs.Xor.{xor}
+use Rattle.lists.specs.Zeros.{zeros}
+use Rattle.block.specs.Block.{double}
+use Rattle.mode.specs.Form.{Form, parallel, serial}
 use Rattle.mode.specs.Masks.{Masks, third}
 use Rattle.mode.specs.Message.{body, te}
-use Rattle.mode.specs.Data.{ta}
+use Rattle.mode.specs.Data.{dataPass, ta}
 use Rattle.mode.specs.Nonce.{format}
 
--- over any cipher E, any masks k, and any TA: a tag of t bytes for the message m
+-- over any cipher E, any masks k, and any a that goes into the tag: a tag of t bytes for the message m
 module _ (E : List ℕ → List ℕ) (k : Masks) (a : List ℕ) (t : ℕ) where
   unfoldable pub tag : List ℕ → List ℕ
   tag m = take t (xor (te E k m) a)
@@ -16,6 +19,30 @@ module _ (E : List ℕ → List ℕ) (k : Masks) (a : List ℕ) (t : ℕ) where
   unfoldable pub sealed : List ℕ → List ℕ
   sealed m = body E k m ++ tag m
 
--- AES-OTR v3.1 with parallel data, over any cipher E: nonce, associated data, tag length, message
-abbrev pub otr : (List ℕ → List ℕ) → List ℕ → List ℕ → ℕ → List ℕ → List ℕ
-otr E nonce ad t m = sealed E (third (E (format t nonce))) (ta E ad) t m
+-- ---- what a form seals with, from v = E(Format(τ, N)) and a = TA
+-- U (Fig. 1, EF, line 2; Fig. 3, EF-S, line 2)
+abbrev pub firstMask : Form → List ℕ → List ℕ → List ℕ
+firstMask parallel v a = v
+firstMask serial v a = double (xor v a)
+
+-- what is XORed into the tag (OTR-E, line 4): TA, or nothing, as the serial tag is of TE alone
+abbrev pub intoTag : Form → List ℕ → List ℕ
+intoTag parallel a = a
+intoTag serial a = zeros 16
+
+-- ---- AES-OTR v3.1, over any cipher E: form, nonce, associated data, tag length, message
+abbrev pub dataTag : (List ℕ → List ℕ) → Form → List ℕ → List ℕ
+dataTag E f ad = ta E (dataPass E (E (zeros 16)) f) ad
+
+module _ (E : List ℕ → List ℕ) (f : Form) (nonce ad : List ℕ) (t : ℕ) where
+  abbrev pub u : List ℕ
+  u = firstMask f (E (format t nonce)) (dataTag E f ad)
+
+  abbrev pub masks : Masks
+  masks = third u
+
+  abbrev pub added : List ℕ
+  added = intoTag f (dataTag E f ad)
+
+  abbrev pub otr : List ℕ → List ℕ
+  otr m = sealed E masks added t m

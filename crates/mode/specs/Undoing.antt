@@ -6,9 +6,10 @@ use lib.ListN.{length, take, drop}
 use Rattle.lists.specs.Same.{same}
 use Rattle.lists.specs.Xor.{xor}
 use Rattle.block.specs.Block.{pad}
+use Rattle.mode.specs.Form.{Form}
 use Rattle.mode.specs.Masks.{Masks}
 use Rattle.mode.specs.Message.{pairsOf, even, rest, half, pairs, l, r}
-use Rattle.mode.specs.Sealing.{tag}
+use Rattle.mode.specs.Sealing.{tag, masks, added}
 use Rattle.mode.specs.Opening.{Opened, accepted, refused}
 
 -- a pair is undone by the pair step with its masks exchanged
@@ -46,3 +47,7 @@ module _ (E : List ℕ → List ℕ) (k : Masks) (a : List ℕ) (t : ℕ) where
 
   unfoldable pub opened : List ℕ → Opened
   opened s = answer (same (tag E k a t (plain s)) (drop (length s - t) s)) (plain s)
+
+-- what a call of v3.1 finds, over any cipher E: form, nonce, associated data, tag length, sealed string
+abbrev pub found : (List ℕ → List ℕ) → Form → List ℕ → List ℕ → ℕ → List ℕ → Opened
+found E f nonce ad t s = opened E (masks E f nonce ad t) (added E f nonce ad t) t s

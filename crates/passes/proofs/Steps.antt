@@ -6,12 +6,10 @@ use native.Mathlib.Numerals.{add-one}
 use native.Mathlib.Omega.{arith}
 use lib.ListN.{length}
 use Rattle.lists.specs.Lay.{lay}
-use Rattle.lists.specs.Xor.{xor}
 use Rattle.lists.proofs.Laid.{lay-lay}
 use Rattle.block.specs.Block.{double}
 use Rattle.mode.specs.Masks.{Masks, IsCipher, AreMasks, doubles}
-use Rattle.mode.specs.Message.{block, pairs}
-use Rattle.mode.specs.Data.{q, dataSum}
+use Rattle.mode.specs.Message.{pairs}
 use Rattle.mode.proofs.Pairs.{here, pairs-step, length-pairs, length-here}
 
 pub doubles-step : (i : ℕ) (x : List ℕ) → double (doubles i x) ≡ doubles (i + 1) x
@@ -27,7 +25,3 @@ lay-pair E e k s i m out h l =
     ap (λ (j : ℕ). lay j (here E e k s i m) (lay 0 (pairs E k i m) out)) place
     ∙ lay-lay 0 (pairs E k i m) (here E e k s i m) out (omega (arith, length-here E e k s i m h))
     ∙ ap (λ (x : List ℕ). lay 0 x out) (pairs-step E e k s i m)
-
-pub dataSum-step : (E : List ℕ → List ℕ) (n : ℕ) (a : List ℕ) → xor (dataSum E n a) (E (xor (q E n) (block a (16 * n)))) ≡ dataSum E (n + 1) a
-unfolding dataSum
-dataSum-step E n a = sym (ap (λ (j : ℕ). dataSum E j a) (add-one n))

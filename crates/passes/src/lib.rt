@@ -6,11 +6,9 @@ ghost use lib.ListN.{length};
 ghost use Rattle.lists.specs.Lay.{lay};
 ghost use Rattle.field.specs.Substitution.{sbox};
 ghost use Rattle.aes.specs.Cipher.{cipher};
-ghost use Rattle.mode.specs.Masks.{third};
-ghost use Rattle.mode.specs.Data.{ta};
-ghost use Rattle.mode.specs.Nonce.{format};
-ghost use Rattle.mode.specs.Sealing.{otr};
-ghost use Rattle.mode.specs.Undoing.{opened};
+ghost use Rattle.mode.specs.Form.{formOf};
+ghost use Rattle.mode.specs.Sealing.{u as uOf, added as addedOf, otr};
+ghost use Rattle.mode.specs.Undoing.{found};
 ghost use Rattle.passes.specs.Shown.{shown, flag};
 
 mod data;
@@ -18,20 +16,49 @@ mod ends;
 mod message;
 mod nonce;
 mod pairs;
+mod parallel;
+mod serial;
 mod tag;
 
-// U, the cipher of the nonce block.
-fn first_mask(table: &[u8; 256], w: &[u8; 240], nr: usize, t: usize, n: &[u8]) -> [u8; 16]
+// The first mask U, and what is XORed into the tag.
+struct SealsWith {
+    u: [u8; 16],
+    added: [u8; 16],
+}
+
+// What the form with this number seals with, for the nonce n and the associated data a.
+fn seals_with(
+    form: usize,
+    table: &[u8; 256],
+    w: &[u8; 240],
+    nr: usize,
+    n: &[u8],
+    a: &[u8],
+    t: usize,
+) -> SealsWith
     requires { ⌜ now table ≡ sbox ⌝ }
     requires { ⌜ (0 < nr) × (nr ≤ 14) ⌝ }
     requires { ⌜ (1 ≤ length (now n)) × ((length (now n) ≤ 15) × (t ≤ 16)) ⌝ }
-    ensures { λ r. ⌜ r ≡ cipher nr (now (w .entry)) (format t (now (n .entry))) ⌝ }
+    ensures { λ r. ⌜ r .u ≡ uOf (cipher nr (now (w .entry))) (formOf form) (now (n .entry)) (now (a .entry)) t ⌝ }
+    ensures { λ r. ⌜ r .added ≡ addedOf (cipher nr (now (w .entry))) (formOf form) (now (n .entry)) (now (a .entry)) t ⌝ }
 {
-    aes::encrypt(table, w, nr, nonce::format(t, n))
+    let q = data::first_q(table, w, nr, a);
+    let v = aes::encrypt(table, w, nr, nonce::format(t, n));
+    if form == 0 {
+        let ta = parallel::ta(table, w, nr, q, a);
+        return SealsWith { u: v, added: ta };
+    }
+    let ta = serial::ta(table, w, nr, q, a);
+    let u = block::double(block::xor(v, ta));
+    SealsWith {
+        u: u,
+        added: block::zeros(),
+    }
 }
 
 // Seals the message m with nonce n and associated data a into out: the ciphertext, and t bytes of tag behind it.
 pub fn seal(
+    form: usize,
     table: &[u8; 256],
     w: &[u8; 240],
     nr: usize,
@@ -45,16 +72,19 @@ pub fn seal(
     requires { ⌜ (0 < nr) × (nr ≤ 14) ⌝ }
     requires { ⌜ (1 ≤ length (now n)) × ((length (now n) ≤ 15) × (t ≤ 16)) ⌝ }
     requires { ⌜ length (now m) + t ≤ length (now out) ⌝ }
-    ensures { λ _. ⌜ now (out .exit) ≡ lay 0 (otr (cipher nr (now (w .entry))) (now (n .entry)) (now (a .entry)) t (now (m .entry))) (now (out .entry)) ⌝ }
+    ensures { λ _. ⌜ now (out .exit) ≡ lay 0 (otr (cipher nr (now (w .entry))) (formOf form) (now (n .entry)) (now (a .entry)) t (now (m .entry))) (now (out .entry)) ⌝ }
 {
-    let u = first_mask(table, w, nr, t, n);
+    let with = seals_with(form, table, w, nr, n, a, t);
+    let u = with.u;
+    let added = with.added;
     let te = message::seal(table, w, nr, u, m, out);
-    let x = block::xor(te, data::ta(table, w, nr, a));
+    let x = block::xor(te, added);
     lists::lay(out, m.len(), &x[..t]);
 }
 
 // Opens s, whose last t bytes are the tag, into out, and says whether the tag matches. Where it does not, the message is cleared.
 pub fn open(
+    form: usize,
     table: &[u8; 256],
     w: &[u8; 240],
     nr: usize,
@@ -68,13 +98,15 @@ pub fn open(
     requires { ⌜ (0 < nr) × (nr ≤ 14) ⌝ }
     requires { ⌜ (1 ≤ length (now n)) × ((length (now n) ≤ 15) × (t ≤ 16)) ⌝ }
     requires { ⌜ (t ≤ length (now s)) × (length (now s) - t ≤ length (now out)) ⌝ }
-    ensures { λ r. ⌜ r ≡ flag (opened (cipher nr (now (w .entry))) (third (cipher nr (now (w .entry)) (format t (now (n .entry))))) (ta (cipher nr (now (w .entry))) (now (a .entry))) t (now (s .entry))) ⌝ }
-    ensures { λ _. ⌜ now (out .exit) ≡ shown (opened (cipher nr (now (w .entry))) (third (cipher nr (now (w .entry)) (format t (now (n .entry))))) (ta (cipher nr (now (w .entry))) (now (a .entry))) t (now (s .entry))) (length (now (s .entry)) - t) (now (out .entry)) ⌝ }
+    ensures { λ r. ⌜ r ≡ flag (found (cipher nr (now (w .entry))) (formOf form) (now (n .entry)) (now (a .entry)) t (now (s .entry))) ⌝ }
+    ensures { λ _. ⌜ now (out .exit) ≡ shown (found (cipher nr (now (w .entry))) (formOf form) (now (n .entry)) (now (a .entry)) t (now (s .entry))) (length (now (s .entry)) - t) (now (out .entry)) ⌝ }
 {
     let b = s.len() - t;
-    let u = first_mask(table, w, nr, t, n);
+    let with = seals_with(form, table, w, nr, n, a, t);
+    let u = with.u;
+    let added = with.added;
     let te = message::open(table, w, nr, u, &s[..b], out);
-    let x = block::xor(te, data::ta(table, w, nr, a));
+    let x = block::xor(te, added);
     if tag::same_tag(x, s, b, t) {
         return true;
     }

@@ -5,11 +5,9 @@ use Prim.Native.Nat.{ℕ, _+_, _-_, _≤_}
 use lib.ListN.{length}
 use Rattle.aes.specs.Cipher.{cipher}
 use Rattle.aes.specs.Expansion.{aes}
-use Rattle.mode.specs.Masks.{third}
-use Rattle.mode.specs.Data.{ta}
-use Rattle.mode.specs.Nonce.{format}
+use Rattle.mode.specs.Form.{formOf}
 use Rattle.mode.specs.Opening.{Opened}
-use Rattle.mode.specs.Undoing.{opened}
+use Rattle.mode.specs.Undoing.{found as foundOf}
 use Rattle.mode.proofs.Third.{otr-opens}
 use Rattle.passes.specs.Shown.{shown, flag}
 use Rattle.link.specs.Checks.{Check, pass, openCheck, asAnswer}
@@ -28,18 +26,18 @@ start-of c = c .before .before .before .before .before .before
 abbrev checks : tie.After-open-check → Check
 checks c =
     let v = start-of c .args in
-    openCheck (length (v .key .now)) (length (v .nonce .now)) (v .tag) (length (v .ad .now)) (length (v .sealed .now)) (length (v .out .now))
+    openCheck (v .form) (length (v .key .now)) (length (v .nonce .now)) (v .tag) (length (v .ad .now)) (length (v .sealed .now)) (length (v .out .now))
 
 -- once the checks have passed: every length is within its limits, and the message fits
 facts : (c : tie.Else1)
-    → (Called (length (start-of (c .before .before) .args .key .now)) (length (start-of (c .before .before) .args .nonce .now)) (start-of (c .before .before) .args .tag) (length (start-of (c .before .before) .args .ad .now))
+    → (Called (start-of (c .before .before) .args .form) (length (start-of (c .before .before) .args .key .now)) (length (start-of (c .before .before) .args .nonce .now)) (start-of (c .before .before) .args .tag) (length (start-of (c .before .before) .args .ad .now))
     × (start-of (c .before .before) .args .tag ≤ length (start-of (c .before .before) .args .sealed .now))
     × (length (start-of (c .before .before) .args .sealed .now) ≤ 16384 + start-of (c .before .before) .args .tag)
     × (length (start-of (c .before .before) .args .sealed .now) - start-of (c .before .before) .args .tag ≤ length (start-of (c .before .before) .args .out .now)))
     × (checks (c .before .before) ≡ pass (length (start-of (c .before .before) .args .sealed .now) - start-of (c .before .before) .args .tag))
 facts c =
     let v = start-of (c .before .before) .args in
-    went-on (open-verdict (length (v .key .now)) (length (v .nonce .now)) (v .tag) (length (v .ad .now)) (length (v .sealed .now)) (length (v .out .now)))
+    went-on (open-verdict (v .form) (length (v .key .now)) (length (v .nonce .now)) (v .tag) (length (v .ad .now)) (length (v .sealed .now)) (length (v .out .now)))
     (c .before .before .open-check .result) (c .before .before .open-check .ensures) (sym (c .before .number .ensures) ∙ c .if1 .left)
 
 -- ---- once the passes have answered
@@ -50,7 +48,7 @@ else-of c = c .before .before .before .before .before .before .before .before
 abbrev found : tie.After-open → (List ℕ → List ℕ) → Opened
 found c E =
     let v = start-of (else-of c .before .before) .args in
-    opened E (third (E (format (v .tag) (v .nonce .now)))) (ta E (v .ad .now)) (v .tag) (v .sealed .now)
+    foundOf E (formOf (v .form)) (v .nonce .now) (v .ad .now) (v .tag) (v .sealed .now)
 
 abbrev answer : tie.After-open → Opened
 answer c = found c (aes (start-of (else-of c .before .before) .args .key .now))
@@ -68,17 +66,17 @@ flag-is c = c .«open» .ensures .0 ∙ ap flag (found-is c)
 allowed : (c : tie.After-open) (r : Answer)
     → r ≡ openedAs (length (start-of (else-of c .before .before) .args .sealed .now) - start-of (else-of c .before .before) .args .tag) (answer c)
     → OpensBy (checks (else-of c .before .before))
-    (sealing (start-of (else-of c .before .before) .args .key .now) (start-of (else-of c .before .before) .args .nonce .now) (start-of (else-of c .before .before) .args .ad .now) (start-of (else-of c .before .before) .args .tag))
-    (start-of (else-of c .before .before) .args .sealed .now) (start-of (else-of c .before .before) .args .out .now) r (c .«open» .last .1 .1 .1 .1 .1 .1 .1 .0)
+    (sealing (start-of (else-of c .before .before) .args .form) (start-of (else-of c .before .before) .args .key .now) (start-of (else-of c .before .before) .args .nonce .now) (start-of (else-of c .before .before) .args .ad .now) (start-of (else-of c .before .before) .args .tag))
+    (start-of (else-of c .before .before) .args .sealed .now) (start-of (else-of c .before .before) .args .out .now) r (c .«open» .last .1 .1 .1 .1 .1 .1 .1 .1 .0)
 allowed c r h =
     let v = start-of (else-of c .before .before) .args in
     let n = length (v .sealed .now) - v .tag in
     let f = facts (else-of c) in
     subst
-    (λ (x : Check). OpensBy x (sealing (v .key .now) (v .nonce .now) (v .ad .now) (v .tag)) (v .sealed .now) (v .out .now) r (c .«open» .last .1 .1 .1 .1 .1 .1 .1 .0))
+    (λ (x : Check). OpensBy x (sealing (v .form) (v .key .now) (v .nonce .now) (v .ad .now) (v .tag)) (v .sealed .now) (v .out .now) r (c .«open» .last .1 .1 .1 .1 .1 .1 .1 .1 .0))
     (sym (f .1)) (
       answer c,
-      otr-opens (aes (v .key .now)) (aes-cipher (v .key .now)) (v .nonce .now) (v .ad .now) (v .tag) (f .0 .0 .nonces .1) (f .0 .0 .tags .1) (v .sealed .now) (f .0 .1),
+      otr-opens (aes (v .key .now)) (aes-cipher (v .key .now)) (formOf (v .form)) (v .nonce .now) (v .ad .now) (v .tag) (f .0 .0 .nonces .1) (f .0 .0 .tags .1) (v .sealed .now) (f .0 .1),
       h,
       c .«open» .ensures .1 ∙ ap (λ (o : Opened). shown o n (v .out .now)) (found-is c),
     )
@@ -88,7 +86,7 @@ unfolding Opens
 returns c =
     let at-check = c .before .before in
     let v = start-of at-check .args in
-    open-stopped (checks at-check) (sealing (v .key .now) (v .nonce .now) (v .ad .now) (v .tag)) (v .sealed .now) (v .out .now) (at-check .open-check .result)
+    open-stopped (checks at-check) (sealing (v .form) (v .key .now) (v .nonce .now) (v .ad .now) (v .tag)) (v .sealed .now) (v .out .now) (at-check .open-check .result)
     (at-check .open-check .ensures) (λ z. c .if1 .taken (c .before .number .ensures ∙ z))
 
 open-requires : tie.Need-open-requires

@@ -4,6 +4,7 @@ use mathlib.Core.List.{List}
 use Prim.Native.Nat.{ℕ, _+_, _≤_}
 use lib.ListN.{length}
 use Rattle.lists.specs.Lay.{lay}
+use Rattle.mode.specs.Form.{formOf}
 use Rattle.mode.specs.Sealing.{otr}
 use Rattle.link.specs.Checks.{Check, pass, sealCheck, asAnswer}
 use Rattle.link.specs.Promises.{sealing, SealsBy, Seals}
@@ -19,17 +20,17 @@ start-of c = c .before .before .before .before .before .before
 abbrev checks : tie.After-seal-check → Check
 checks c =
     let v = start-of c .args in
-    sealCheck (length (v .key .now)) (length (v .nonce .now)) (v .tag) (length (v .ad .now)) (length (v .message .now)) (length (v .out .now))
+    sealCheck (v .form) (length (v .key .now)) (length (v .nonce .now)) (v .tag) (length (v .ad .now)) (length (v .message .now)) (length (v .out .now))
 
 -- once the checks have passed: every length is within its limits, and the message fits
 facts : (c : tie.Else1)
-    → (Called (length (start-of (c .before .before) .args .key .now)) (length (start-of (c .before .before) .args .nonce .now)) (start-of (c .before .before) .args .tag) (length (start-of (c .before .before) .args .ad .now))
+    → (Called (start-of (c .before .before) .args .form) (length (start-of (c .before .before) .args .key .now)) (length (start-of (c .before .before) .args .nonce .now)) (start-of (c .before .before) .args .tag) (length (start-of (c .before .before) .args .ad .now))
     × (length (start-of (c .before .before) .args .message .now) ≤ 16384)
     × (length (start-of (c .before .before) .args .message .now) + start-of (c .before .before) .args .tag ≤ length (start-of (c .before .before) .args .out .now)))
     × (checks (c .before .before) ≡ pass (length (start-of (c .before .before) .args .message .now) + start-of (c .before .before) .args .tag))
 facts c =
     let v = start-of (c .before .before) .args in
-    went-on (seal-verdict (length (v .key .now)) (length (v .nonce .now)) (v .tag) (length (v .ad .now)) (length (v .message .now)) (length (v .out .now)))
+    went-on (seal-verdict (v .form) (length (v .key .now)) (length (v .nonce .now)) (v .tag) (length (v .ad .now)) (length (v .message .now)) (length (v .out .now)))
     (c .before .before .seal-check .result) (c .before .before .seal-check .ensures) (sym (c .before .number .ensures) ∙ c .if1 .left)
 
 returns : tie.Need-returns
@@ -37,7 +38,7 @@ unfolding Seals
 returns c =
     let at-check = c .before .before in
     let v = start-of at-check .args in
-    seal-stopped (checks at-check) (sealing (v .key .now) (v .nonce .now) (v .ad .now) (v .tag) (v .message .now)) (v .out .now) (at-check .seal-check .result)
+    seal-stopped (checks at-check) (sealing (v .form) (v .key .now) (v .nonce .now) (v .ad .now) (v .tag) (v .message .now)) (v .out .now) (at-check .seal-check .result)
     (at-check .seal-check .ensures) (λ z. c .if1 .taken (c .before .number .ensures ∙ z))
 
 seal-requires : tie.Need-seal-requires
@@ -67,10 +68,10 @@ returns-2 c =
     let f = facts e in
     let E-is = cipher-is key (keyed key (f .0 .0 .known)) (at-expand .expand .result) (at-expand .expand .ensures) in
     subst
-    (λ (x : Check). SealsBy x (sealing key (v .nonce .now) (v .ad .now) (v .tag) (v .message .now)) (v .out .now) (at-check .seal-check .result) (at-seal .seal .last .1 .1 .1 .1 .1 .1 .1 .0))
+    (λ (x : Check). SealsBy x (sealing (v .form) key (v .nonce .now) (v .ad .now) (v .tag) (v .message .now)) (v .out .now) (at-check .seal-check .result) (at-seal .seal .last .1 .1 .1 .1 .1 .1 .1 .1 .0))
     (sym (f .1)) (
       at-check .seal-check .ensures ∙ ap asAnswer (f .1),
-      at-seal .seal .ensures ∙ ap (λ (E : List ℕ → List ℕ). lay 0 (otr E (v .nonce .now) (v .ad .now) (v .tag) (v .message .now)) (v .out .now)) E-is,
+      at-seal .seal .ensures ∙ ap (λ (E : List ℕ → List ℕ). lay 0 (otr E (formOf (v .form)) (v .nonce .now) (v .ad .now) (v .tag) (v .message .now)) (v .out .now)) E-is,
     )
 
 pub seal-spec : {M : Type 1} → statement M

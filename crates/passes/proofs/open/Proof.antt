@@ -13,15 +13,14 @@ use Rattle.lists.specs.Zeros.{zeros}
 use Rattle.lists.proofs.Laid.{lay-over}
 use Rattle.lists.proofs.Zeros.{length-zeros}
 use Rattle.aes.specs.Cipher.{cipher}
+use Rattle.mode.specs.Form.{formOf}
 use Rattle.mode.specs.Masks.{Masks, third}
 use Rattle.mode.specs.Message.{te}
-use Rattle.mode.specs.Data.{ta}
-use Rattle.mode.specs.Nonce.{format}
+use Rattle.mode.specs.Sealing.{masks, added}
 use Rattle.mode.specs.Opening.{Opened}
-use Rattle.mode.specs.Undoing.{unbody, answer, opened}
+use Rattle.mode.specs.Undoing.{unbody, answer, found as foundOf}
 use Rattle.mode.proofs.Walk.{length-unbody}
-use Rattle.mode.proofs.Format.{length-format}
-use Rattle.mode.proofs.Third.{third-masks}
+use Rattle.mode.proofs.Third.{otr-masks}
 use Rattle.passes.specs.Shown.{shown, flag}
 use Rattle.passes.proofs.Cipher.{is-cipher}
 use Rattle.passes.proofs.Sealed.{opened-by}
@@ -34,7 +33,7 @@ abbrev E : tie.Start → List ℕ → List ℕ
 E c = cipher (c .args .nr) (c .args .w .now)
 
 abbrev k : tie.Start → Masks
-k c = third (E c (format (c .args .t) (c .args .n .now)))
+k c = masks (E c) (formOf (c .args .form)) (c .args .n .now) (c .args .a .now) (c .args .t)
 
 abbrev ciphertext : tie.Start → List ℕ
 ciphertext c = take (length (c .args .s .now) - c .args .t) (c .args .s .now)
@@ -43,45 +42,49 @@ abbrev plain : tie.Start → List ℕ
 plain c = unbody (E c) (k c) (ciphertext c)
 
 abbrev found : tie.Start → Opened
-found c = opened (E c) (k c) (ta (E c) (c .args .a .now)) (c .args .t) (c .args .s .now)
+found c = foundOf (E c) (formOf (c .args .form)) (c .args .n .now) (c .args .a .now) (c .args .t) (c .args .s .now)
 
 cipher-long : (c : tie.Start) → length (ciphertext c) ≡ length (c .args .s .now) - c .args .t
 cipher-long c = length-take-le (length (c .args .s .now) - c .args .t) (c .args .s .now) (omega arith)
 
 plain-long : (c : tie.Start) → length (plain c) ≡ length (c .args .s .now) - c .args .t
 plain-long c =
-    let e = is-cipher (c .args .nr) (c .args .w .now) in
-    let n = format (c .args .t) (c .args .n .now) in
-    length-unbody (E c) e (k c) (third-masks (E c n) (e n (length-format (c .args .t) (c .args .n .now) (c .pre .1 .1 .0 .1 .0)))) (ciphertext c)
-    ∙ cipher-long c
+    let v = c .args in
+    let e = is-cipher (v .nr) (v .w .now) in
+    length-unbody (E c) e (k c) (otr-masks (E c) e (formOf (v .form)) (v .n .now) (v .a .now) (v .t) (c .pre .1 .1 .0 .1 .0)) (ciphertext c) ∙ cipher-long c
 
 -- once the tags are compared
-abbrev start-of : tie.After-same-tag → tie.Start
-start-of c = c .before .before .before .before .before .before .before .before .before .before .before .before .before
+abbrev open-of : tie.After-same-tag → tie.After-open
+open-of c = c .before .before .before .before
 
-message-is : (c : tie.After-same-tag) → c .before .before .before .before .before .«open» .last .1 .1 .1 .1 .1 .0 ≡ lay 0 (plain (start-of c)) (start-of c .args .out .now)
+abbrev with-of : tie.After-same-tag → tie.After-seals-with
+with-of c = open-of c .before .before .before .before .before
+
+abbrev start-of : tie.After-same-tag → tie.Start
+start-of c = with-of c .before .before .before .before .before
+
+message-is : (c : tie.After-same-tag) → open-of c .«open» .last .1 .1 .1 .1 .1 .0 ≡ lay 0 (plain (start-of c)) (start-of c .args .out .now)
 message-is c =
     let start = start-of c in
-    let at-open = c .before .before .before .before .before in
-    at-open .«open» .ensures .0
-    ∙ ap (λ (x : List ℕ). lay 0 (unbody (E start) (third x) (ciphertext start)) (start .args .out .now)) (at-open .before .before .before .first-mask .ensures)
+    open-of c .«open» .ensures .0
+    ∙ ap (λ (x : List ℕ). lay 0 (unbody (E start) (third x) (ciphertext start)) (start .args .out .now)) (with-of c .seals-with .ensures .0)
 
 answer-is : (c : tie.After-same-tag) → found (start-of c) ≡ answer (c .same-tag .result) (plain (start-of c))
 answer-is c =
     let start = start-of c in
     let v = start .args in
-    let at-open = c .before .before .before .before .before in
-    let te-is = at-open .«open» .ensures .1 ∙ ap (λ (x : List ℕ). te (E start) (third x) (unbody (E start) (third x) (ciphertext start))) (at-open .before .before .before .first-mask .ensures) in
-    let x-is = c .before .xor .ensures ∙ ap₂ xor te-is (c .before .before .ta .ensures) in
-    opened-by (E start) (k start) (ta (E start) (v .a .now)) (v .t) (v .s .now) (c .same-tag .result)
+    let with = with-of c .seals-with .ensures in
+    let te-is = open-of c .«open» .ensures .1 ∙ ap (λ (x : List ℕ). te (E start) (third x) (unbody (E start) (third x) (ciphertext start))) (with .0) in
+    let x-is = c .before .xor .ensures ∙ ap₂ xor te-is (with .1) in
+    opened-by (E start) (k start) (added (E start) (formOf (v .form)) (v .n .now) (v .a .now) (v .t)) (v .t) (v .s .now) (c .same-tag .result)
     (sym (c .same-tag .ensures ∙ ap (λ (x : List ℕ). same (take (v .t) x) (drop (length (v .s .now) - v .t) (v .s .now))) x-is))
 
 slice-aggregate-open : tie.Need-slice-aggregate-open
-slice-aggregate-open c = sym (cipher-long (c .before .before .before .before .before .before))
+slice-aggregate-open c = sym (cipher-long (c .before .before .before .before .before .before .before .before))
 
 open-requires : tie.Need-open-requires
 open-requires c κs =
-    let start = c .before .before .before .before .before .before .before in
+    let start = c .before .before .before .before .before .before .before .before .before in
     (start .pre .0, (start .pre .1 .0, omega (arith, cipher-long start, start .pre .1 .1 .1)))
 
 returns : tie.Need-returns
@@ -94,7 +97,7 @@ returns c =
 clear-requires : tie.Need-clear-requires
 clear-requires c κs =
     let d = c .before .before in
-    omega (arith, start-of d .pre .1 .1 .1, d .before .before .before .before .before .«open» .kept)
+    omega (arith, start-of d .pre .1 .1 .1, open-of d .«open» .kept)
 
 returns-2 : tie.Need-returns-2
 returns-2 c =
@@ -112,4 +115,4 @@ returns-2 c =
 
 pub open-spec : {M : Type 1} → statement M
 open-spec =
-    tie.close (tie.spec (λ c. search needs) (λ c κs. search needs) slice-aggregate-open open-requires (λ c κs. search needs) (λ c κs. search needs) (λ c κs. search needs) (λ c. search needs) returns clear-requires (λ c. search needs) returns-2)
+    tie.close (tie.spec (λ c. search needs) (λ c κs. search needs) slice-aggregate-open open-requires (λ c κs. search needs) (λ c κs. search needs) (λ c. search needs) returns clear-requires (λ c. search needs) returns-2)

@@ -1,10 +1,10 @@
--- `passes::data::data_mask` meets its contract. Assumes nothing.
+-- `passes::parallel::data_mask` meets its contract. Assumes nothing.
 use mathlib.Core.Path.{sym, ap, _∙_}
 use borrow.Author.Tests.{lt-ltb, le-ltb}
 use Rattle.mode.specs.Data.{dataFinal}
 use borrow.Author.Needs.{needs}
-use Rattle.passes.proofs.data.data_mask.Statement.{statement}
-use Rattle.passes.proofs.data.data_mask.Tie as tie
+use Rattle.passes.proofs.parallel.data_mask.Statement.{statement}
+use Rattle.passes.proofs.parallel.data_mask.Tie as tie
 
 returns : tie.Need-returns
 returns c = c .triple .ensures ∙ sym (ap (λ t. dataFinal t (c .before .before .args .q)) (lt-ltb (c .before .before .args .n) 16 (c .before .if1 .taken)))

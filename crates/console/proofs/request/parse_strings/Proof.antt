@@ -1,8 +1,8 @@
--- `console::request::parse_fields` meets its contract: each string lies in the line that its field was read from, and the line keeps its length. Assumes nothing.
+-- `console::request::parse_strings` meets its contract: each string lies in the line that its field was read from, and the line keeps its length. Assumes nothing.
 use native.Mathlib.Omega.{arith}
 use borrow.Author.Needs.{needs}
-use Rattle.console.proofs.request.parse_fields.Statement.{statement}
-use Rattle.console.proofs.request.parse_fields.Tie as tie
+use Rattle.console.proofs.request.parse_strings.Statement.{statement}
+use Rattle.console.proofs.request.parse_strings.Tie as tie
 
 parse-numbers-requires : tie.Need-parse-numbers-requires
 parse-numbers-requires c κs =
@@ -25,6 +25,6 @@ parse-numbers-requires c κs =
 same-length-5 : tie.Need-same-length-5
 same-length-5 c = omega (arith, c .before .before .before .before .before .before .before .before .before .before .before .before .before .before)
 
-pub parse-fields-spec : {M : Type 1} → statement M
-parse-fields-spec =
+pub parse-strings-spec : {M : Type 1} → statement M
+parse-strings-spec =
     tie.close (tie.spec (λ c κs. search needs) (λ c. search needs) (λ c. search needs) (λ c. search needs) (λ c κs. search needs) (λ c. search needs) (λ c. search needs) (λ c. search needs) (λ c κs. search needs) (λ c. search needs) (λ c. search needs) (λ c. search needs) (λ c κs. search needs) (λ c. search needs) (λ c. search needs) (λ c. search needs) parse-numbers-requires same-length-5 (λ c. search needs))

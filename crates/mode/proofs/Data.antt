@@ -1,0 +1,117 @@
+-- The data pass in both forms: its blocks have 16 bytes, and so does TA. Assumes nothing.
+use mathlib.Core.Path.{_≡_, refl, sym, ap, ap₂, _∙_}
+use mathlib.Core.Bool.{Bool, true, false}
+use mathlib.Core.List.{List, [], _∷_}
+use Prim.Native.Nat.{ℕ, zero, suc, _+_, _-_, _*_, _/_, _≤_}
+use native.Mathlib.Numerals.{add-one}
+use native.Mathlib.Omega.{arith}
+use lib.Dec.{ltb}
+use lib.ListN.{length, drop, length-drop}
+use Rattle.lists.specs.Xor.{xor}
+use Rattle.lists.specs.Zeros.{zeros}
+use Rattle.lists.proofs.Zeros.{length-zeros}
+use Rattle.block.specs.Block.{pad, double, triple}
+use Rattle.block.proofs.Blocks.{length-pad}
+use Rattle.block.proofs.Doubling.{length-double, length-triple}
+use Rattle.mode.specs.Form.{Form, parallel, serial}
+use Rattle.mode.specs.Masks.{IsCipher, doubles}
+use Rattle.mode.specs.Message.{blocks, block}
+use Rattle.mode.specs.Data.{DataPass, dataFinal, dataSum, chainFinal, chain, dataPass, dataEnd, ta}
+use Rattle.mode.specs.Sealing.{dataTag}
+use Rattle.mode.proofs.Pairs.{length-block}
+use Rattle.mode.proofs.Tag.{xor-sixteen}
+
+pub length-doubles : (i : ℕ) (x : List ℕ) → length x ≡ 16 → length (doubles i x) ≡ 16
+unfolding doubles
+length-doubles zero x h = h
+length-doubles (suc i) x h = length-double (doubles i x) (length-doubles i x h)
+
+-- ---- one block more
+pub dataSum-step : (E : List ℕ → List ℕ) (q : List ℕ) (n : ℕ) (a : List ℕ)
+    → xor (dataSum E q n a) (E (xor (doubles n q) (block a (16 * n)))) ≡ dataSum E q (n + 1) a
+unfolding dataSum
+dataSum-step E q n a = sym (ap (λ (j : ℕ). dataSum E q j a) (add-one n))
+
+pub chain-step : (E : List ℕ → List ℕ) (n : ℕ) (a : List ℕ) → E (xor (block a (16 * n)) (chain E n a)) ≡ chain E (n + 1) a
+unfolding chain
+chain-step E n a = sym (ap (λ (j : ℕ). chain E j a) (add-one n))
+
+-- ---- a pass of blocks: Ξ and the masks have 16 bytes
+record AreBlocks (d : DataPass) : Type 0 where
+  xi : (n : ℕ) (a : List ℕ) → 16 * n ≤ length a → length (d .xi n a) ≡ 16
+  mask : (n : ℕ) (s : Bool) → length (d .mask n s) ≡ 16
+
+module _ (E : List ℕ → List ℕ) (e : IsCipher E) where
+  module _ (q : List ℕ) (hq : length q ≡ 16) where
+    length-dataSum : (n : ℕ) (a : List ℕ) → 16 * n ≤ length a → length (dataSum E q n a) ≡ 16
+    unfolding dataSum
+    length-dataSum zero a h = length-zeros 16
+    length-dataSum (suc n) a h =
+        let x = xor (doubles n q) (block a (16 * n)) in
+        xor-sixteen (dataSum E q n a) (E x) (length-dataSum n a (omega arith))
+        (e x (xor-sixteen (doubles n q) (block a (16 * n)) (length-doubles n q hq) (length-block a (16 * n) (omega arith))))
+
+    length-chain : (n : ℕ) (a : List ℕ) → 16 * n ≤ length a → length (chain E n a) ≡ 16
+    unfolding chain
+    length-chain zero a h = length-zeros 16
+    length-chain (suc n) a h =
+        e (xor (block a (16 * n)) (chain E n a))
+        (xor-sixteen (block a (16 * n)) (chain E n a) (length-block a (16 * n) (omega arith)) (length-chain n a (omega arith)))
+
+    length-dataFinal : (s : Bool) (x : List ℕ) → length x ≡ 16 → length (dataFinal s x) ≡ 16
+    length-dataFinal true x h = length-triple x h
+    length-dataFinal false x h = length-triple (triple x) (length-triple x h)
+
+    length-chainFinal : (s : Bool) → length (chainFinal s q) ≡ 16
+    length-chainFinal true = length-double q hq
+    length-chainFinal false = length-double (double q) (length-double q hq)
+
+    are-blocks : (f : Form) → AreBlocks (dataPass E q f)
+    are-blocks parallel = record { xi = length-dataSum; mask = λ n s. length-dataFinal s (doubles n q) (length-doubles n q hq) }
+    are-blocks serial = record { xi = length-chain; mask = λ n s. length-chainFinal s }
+
+  module _ (d : DataPass) where
+    -- empty data, and data that is not
+    pub ta-none : (a : List ℕ) → length a ≡ 0 → ta E d a ≡ zeros 16
+    unfolding ta
+    ta-none [] h = refl
+    ta-none (b ∷ bs) h = absurd (omega arith)
+
+    ta-some : (a : List ℕ) → 1 ≤ length a → ta E d a ≡ dataEnd E d ((length a - 1) / 16) a (drop (16 * ((length a - 1) / 16)) a)
+    unfolding ta blocks
+    ta-some [] h = absurd (omega arith)
+    ta-some (b ∷ bs) h =
+        let is : blocks (length (b ∷ bs)) - 1 ≡ (length (b ∷ bs) - 1) / 16 = omega arith in
+        ap (λ (n : ℕ). dataEnd E d n (b ∷ bs) (drop (16 * n) (b ∷ bs))) is
+
+    -- the same from a mask and a Ξ that are the pass's own
+    pub ta-is : (a mask xi : List ℕ) → 1 ≤ length a
+        → mask ≡ d .mask ((length a - 1) / 16) (ltb (length a - 16 * ((length a - 1) / 16)) 16) → xi ≡ d .xi ((length a - 1) / 16) a
+        → E (xor mask (xor xi (pad (drop (16 * ((length a - 1) / 16)) a)))) ≡ ta E d a
+    ta-is a mask xi some mask-is xi-is =
+        let n = (length a - 1) / 16 in
+        let x = drop (16 * n) a in
+        let long : length a - 16 * n ≡ length x = sym (length-drop (16 * n) a) in
+        ap₂ (λ (k s : List ℕ). E (xor k (xor s (pad x)))) (mask-is ∙ ap (λ (k : ℕ). d .mask n (ltb k 16)) long) xi-is ∙ sym (ta-some a some)
+
+    length-ta : AreBlocks d → (a : List ℕ) → length (ta E d a) ≡ 16
+    unfolding ta blocks
+    length-ta h [] = length-zeros 16
+    length-ta h (b ∷ bs) =
+        let n = blocks (length (b ∷ bs)) - 1 in
+        let x = drop (16 * n) (b ∷ bs) in
+        let mask = d .mask n (ltb (length x) 16) in
+        let sum = xor (d .xi n (b ∷ bs)) (pad x) in
+        e (xor mask sum)
+        (xor-sixteen mask sum (h .mask n (ltb (length x) 16))
+        (xor-sixteen (d .xi n (b ∷ bs)) (pad x) (h .xi n (b ∷ bs) (omega arith))
+        (length-pad x (omega (arith, length-drop (16 * n) (b ∷ bs))))))
+
+  pub length-dataTag : (f : Form) (a : List ℕ) → length (dataTag E f a) ≡ 16
+  length-dataTag f a = length-ta (dataPass E (E (zeros 16)) f) (are-blocks (E (zeros 16)) (e (zeros 16) (length-zeros 16)) f) a
+
+  -- the first Q matters only where there is data
+  pub first-q-with-data : (f : Form) (q p a : List ℕ) → (1 ≤ length a → q ≡ p) → ta E (dataPass E q f) a ≡ ta E (dataPass E p f) a
+  unfolding ta
+  first-q-with-data f q p [] h = refl
+  first-q-with-data f q p (b ∷ bs) h = ap (λ (x : List ℕ). ta E (dataPass E x f) (b ∷ bs)) (h (omega arith))

@@ -1,0 +1,52 @@
+-- `passes::parallel::data_sum` meets its contract. The loop's invariant: the sum of i blocks, and the first mask doubled i times. Assumes nothing.
+use mathlib.Core.Path.{_≡_, refl, ap, ap₂, _∙_}
+use Prim.Native.Nat.{ℕ, _-_, _≤_}
+use native.Mathlib.Omega.{arith}
+use Rattle.lists.specs.Xor.{xor}
+use Rattle.aes.specs.Cipher.{cipher}
+use Rattle.block.specs.Block.{double}
+use Rattle.mode.specs.Masks.{doubles}
+use Rattle.mode.specs.Data.{dataSum}
+use Rattle.mode.proofs.Data.{dataSum-step}
+use Rattle.passes.proofs.Steps.{doubles-step}
+use borrow.Author.Needs.{needs}
+use Rattle.passes.proofs.parallel.data_sum.Statement.{statement}
+use Rattle.passes.proofs.parallel.data_sum.Tie as tie
+
+abbrev Inv-loop : tie.InvT-loop
+Inv-loop table w nr a n s₀ q₀ i₀ s q i = (i ≤ n) × ((s ≡ dataSum (cipher nr w) q₀ i a) × (q ≡ doubles i q₀))
+
+abbrev μ-loop : tie.MeasureT-loop
+μ-loop table w nr a n s₀ q₀ i₀ s q i = n - i
+
+loop-holds : tie.Need-loop-holds Inv-loop μ-loop
+unfolding dataSum doubles
+loop-holds c = (search needs, (c .zeros .ensures, refl))
+
+loop-again : tie.Need-loop-again Inv-loop μ-loop
+loop-again c =
+    let at-loop = c .before .before .before .before .before .before in
+    let v = at-loop .before .before .before .args in
+    let h = at-loop .loop in
+    let E = cipher (v .nr) (v .w .now) in
+    let masked = c .before .before .before .xor .ensures ∙ ap₂ xor (h .inv .1 .1) (c .before .before .before .before .read-block .ensures) in (
+      search needs,
+      (
+        c .before .xor2 .ensures
+            ∙ ap₂ xor (h .inv .1 .0) (c .before .before .encrypt .ensures ∙ ap E masked)
+            ∙ dataSum-step E (v .first) (h .i) (v .a .now),
+        c .double .ensures ∙ ap double (h .inv .1 .1) ∙ doubles-step (h .i) (v .first),
+      ),
+    )
+
+returns : tie.Need-returns Inv-loop μ-loop
+returns c =
+    let h = c .before .loop in
+    let v = c .before .before .before .before .args in
+    let E = cipher (v .nr) (v .w .now) in
+    let done : h .i ≡ v .n = omega arith in
+    (h .inv .1 .0 ∙ ap (λ (k : ℕ). dataSum E (v .first) k (v .a .now)) done, h .inv .1 .1 ∙ ap (λ (k : ℕ). doubles k (v .first)) done)
+
+pub data-sum-spec : {M : Type 1} → statement M
+data-sum-spec =
+    tie.close (tie.spec Inv-loop μ-loop (λ c κs. search needs) loop-holds (λ c. search needs) (λ c κs. search needs) (λ c κs. search needs) (λ c κs. search needs) (λ c κs. search needs) (λ c κs. search needs) (λ c. search needs) (λ c. search needs) loop-again returns)

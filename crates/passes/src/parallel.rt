@@ -1,0 +1,71 @@
+// The associated data pass, parallel form.
+ghost use mathlib.Core.Path.{_≡_};
+ghost use Prim.Native.Nat.{_*_, _≤_, _<_};
+ghost use lib.Dec.{ltb};
+ghost use lib.ListN.{length};
+ghost use Rattle.field.specs.Substitution.{sbox};
+ghost use Rattle.aes.specs.Cipher.{cipher};
+ghost use Rattle.mode.specs.Form.{parallel};
+ghost use Rattle.mode.specs.Masks.{doubles};
+ghost use Rattle.mode.specs.Data.{dataSum, dataFinal, dataPass, ta as taOf};
+use crate::data;
+
+pub struct DataSum {
+    pub sum: [u8; 16],
+    pub q: [u8; 16],
+}
+
+// The first n blocks of a, from the first Q on: their sum, and the Q behind them.
+fn data_sum(
+    table: &[u8; 256],
+    w: &[u8; 240],
+    nr: usize,
+    first: [u8; 16],
+    a: &[u8],
+    n: usize,
+) -> DataSum
+    requires { ⌜ now table ≡ sbox ⌝ }
+    requires { ⌜ (0 < nr) × (nr ≤ 14) ⌝ }
+    requires { ⌜ 16 * n ≤ length (now a) ⌝ }
+    ensures { λ r. ⌜ (r .sum ≡ dataSum (cipher nr (now (w .entry))) first n (now (a .entry))) × (r .q ≡ doubles n first) ⌝ }
+{
+    let mut s = block::zeros();
+    let mut q = first;
+    let mut i = 0;
+    while i < n {
+        let b = block::read_block(a, 16 * i);
+        let e = aes::encrypt(table, w, nr, block::xor(q, b));
+        let t = block::xor(s, e);
+        let d = block::double(q);
+        s = t;
+        q = d;
+        i += 1;
+    }
+    DataSum { sum: s, q: q }
+}
+
+// The final mask for a last block of n bytes.
+fn data_mask(q: [u8; 16], n: usize) -> [u8; 16]
+    ensures { λ r. ⌜ r ≡ dataFinal (ltb n 16) q ⌝ }
+{
+    if n < 16 {
+        return block::triple(q);
+    }
+    block::triple_twice(q)
+}
+
+pub fn ta(table: &[u8; 256], w: &[u8; 240], nr: usize, q: [u8; 16], a: &[u8]) -> [u8; 16]
+    requires { ⌜ now table ≡ sbox ⌝ }
+    requires { ⌜ (0 < nr) × (nr ≤ 14) ⌝ }
+    ensures { λ r. ⌜ r ≡ taOf (cipher nr (now (w .entry))) (dataPass (cipher nr (now (w .entry))) q parallel) (now (a .entry)) ⌝ }
+{
+    if a.len() == 0 {
+        return block::zeros();
+    }
+    let n = (a.len() - 1) / 16;
+    let front = data_sum(table, w, nr, q, a, n);
+    let behind = front.q;
+    let sum = front.sum;
+    let mask = data_mask(behind, a.len() - 16 * n);
+    data::end(table, w, nr, a, n, mask, sum)
+}

@@ -1,0 +1,52 @@
+// The associated data pass, serial form.
+ghost use mathlib.Core.Path.{_≡_};
+ghost use Prim.Native.Nat.{_*_, _≤_, _<_};
+ghost use lib.Dec.{ltb};
+ghost use lib.ListN.{length};
+ghost use Rattle.field.specs.Substitution.{sbox};
+ghost use Rattle.aes.specs.Cipher.{cipher};
+ghost use Rattle.mode.specs.Form.{serial};
+ghost use Rattle.mode.specs.Data.{chain as chainOf, chainFinal, dataPass, ta as taOf};
+use crate::data;
+
+// The first n blocks of a, each ciphered with what came out before it.
+fn chain(table: &[u8; 256], w: &[u8; 240], nr: usize, a: &[u8], n: usize) -> [u8; 16]
+    requires { ⌜ now table ≡ sbox ⌝ }
+    requires { ⌜ (0 < nr) × (nr ≤ 14) ⌝ }
+    requires { ⌜ 16 * n ≤ length (now a) ⌝ }
+    ensures { λ r. ⌜ r ≡ chainOf (cipher nr (now (w .entry))) n (now (a .entry)) ⌝ }
+{
+    let mut xi = block::zeros();
+    let mut i = 0;
+    while i < n {
+        let b = block::read_block(a, 16 * i);
+        let e = aes::encrypt(table, w, nr, block::xor(b, xi));
+        xi = e;
+        i += 1;
+    }
+    xi
+}
+
+// The final mask for a last block of n bytes.
+fn chain_mask(q: [u8; 16], n: usize) -> [u8; 16]
+    ensures { λ r. ⌜ r ≡ chainFinal (ltb n 16) q ⌝ }
+{
+    if n < 16 {
+        return block::double(q);
+    }
+    block::double(block::double(q))
+}
+
+pub fn ta(table: &[u8; 256], w: &[u8; 240], nr: usize, q: [u8; 16], a: &[u8]) -> [u8; 16]
+    requires { ⌜ now table ≡ sbox ⌝ }
+    requires { ⌜ (0 < nr) × (nr ≤ 14) ⌝ }
+    ensures { λ r. ⌜ r ≡ taOf (cipher nr (now (w .entry))) (dataPass (cipher nr (now (w .entry))) q serial) (now (a .entry)) ⌝ }
+{
+    if a.len() == 0 {
+        return block::zeros();
+    }
+    let n = (a.len() - 1) / 16;
+    let xi = chain(table, w, nr, a, n);
+    let mask = chain_mask(q, a.len() - 16 * n);
+    data::end(table, w, nr, a, n, mask, xi)
+}

@@ -1,0 +1,158 @@
+//! The message pass: EF and DF (000, figure 1), which are EF-S and DF-S (000, figure 3) too.
+//! They differ only in the generation of U (000, "Algorithms for Serial ADP"), which is given
+//! here. Lines are figure 1's; from line 3 on figure 3 has each one number higher.
+//!
+//! The transcript of the figures lost the underline that stands for padding (EF, lines
+//! 12, 13 and 17; DF, lines 10, 13 and 17); 01 says where it belongs.
+
+use crate::block::{
+    double, full, pad, partition, times_3, times_3_squared, times_7, xor, xor_first, Block, Cipher,
+    BLOCK_BYTES, ZERO,
+};
+
+/// What EF and DF carry from chunk to chunk.
+struct Core<'a> {
+    e: Cipher<'a>,
+    sigma: Block,
+    l: Block,
+    l_sharp: Block,
+}
+
+impl<'a> Core<'a> {
+    /// Lines 1 and 2 (in figure 3, lines 1 and 3).
+    fn start(e: Cipher<'a>, u: &Block) -> Core<'a> {
+        Core {
+            e,
+            sigma: ZERO,
+            l: *u,
+            l_sharp: times_3(u),
+        }
+    }
+
+    fn e_l(&self, x: &Block) -> Block {
+        (self.e)(&xor(&self.l, x))
+    }
+
+    fn e_l_sharp(&self, x: &Block) -> Block {
+        (self.e)(&xor(&self.l_sharp, x))
+    }
+
+    fn add_to_sigma(&mut self, x: &Block) {
+        self.sigma = xor(&self.sigma, x);
+    }
+
+    /// Line 8; the step, not figure 1's comment, decides (01).
+    fn step(&mut self) {
+        self.l = xor(&self.l, &self.l_sharp);
+        self.l_sharp = double(&self.l_sharp);
+    }
+
+    /// Lines 14, 18, 19 and 20.
+    fn te(&self, m: usize, last_block: &[u8]) -> Block {
+        let l_star = if m % 2 == 0 { self.l_sharp } else { self.l };
+        let mask = if last_block.len() != BLOCK_BYTES {
+            times_3_squared(&l_star)
+        } else {
+            times_7(&l_star)
+        };
+        (self.e)(&xor(&mask, &self.sigma))
+    }
+}
+
+/// EF with its U: the ciphertext C and TE.
+pub fn ef(e: Cipher, u: &Block, message: &[u8]) -> (Vec<u8>, Block) {
+    let mut core = Core::start(e, u);
+    let blocks = partition(message);
+    let m = blocks.len();
+    let mut c = Vec::with_capacity(message.len());
+    // i = 1 to ceil(m/2) - 1; the paper's M[j] is blocks[j - 1].
+    for i in 1..m.div_ceil(2) {
+        c.extend(ef_pair(
+            &mut core,
+            &full(blocks[2 * i - 2]),
+            &full(blocks[2 * i - 1]),
+        ));
+    }
+    if m % 2 == 0 {
+        c.extend(ef_last_two(&mut core, &full(blocks[m - 2]), blocks[m - 1]));
+    } else {
+        c.extend(ef_last_one(&mut core, blocks[m - 1]));
+    }
+    let te = core.te(m, blocks[m - 1]);
+    (c, te)
+}
+
+/// EF, lines 5 to 8.
+fn ef_pair(core: &mut Core, m_odd: &Block, m_even: &Block) -> Vec<u8> {
+    let c_odd = xor(&core.e_l(m_odd), m_even);
+    let c_even = xor(&core.e_l_sharp(&c_odd), m_odd);
+    core.add_to_sigma(m_even);
+    core.step();
+    [c_odd, c_even].concat()
+}
+
+/// EF, lines 10 to 13.
+fn ef_last_two(core: &mut Core, m_before: &Block, m_last: &[u8]) -> Vec<u8> {
+    let z = core.e_l(m_before);
+    let c_last = xor_first(&z, m_last);
+    let c_before = xor(&core.e_l_sharp(&pad(&c_last)), m_before);
+    core.add_to_sigma(&z);
+    core.add_to_sigma(&pad(&c_last));
+    [&c_before[..], &c_last[..]].concat()
+}
+
+/// EF, lines 16 and 17; E(L) is E(L xor zero).
+fn ef_last_one(core: &mut Core, m_last: &[u8]) -> Vec<u8> {
+    let c_last = xor_first(&core.e_l(&ZERO), m_last);
+    core.add_to_sigma(&pad(m_last));
+    c_last
+}
+
+/// DF with its U: the message M and TE.
+pub fn df(e: Cipher, u: &Block, c: &[u8]) -> (Vec<u8>, Block) {
+    let mut core = Core::start(e, u);
+    let blocks = partition(c);
+    let m = blocks.len();
+    let mut message = Vec::with_capacity(c.len());
+    // i = 1 to ceil(m/2) - 1; the paper's C[j] is blocks[j - 1].
+    for i in 1..m.div_ceil(2) {
+        message.extend(df_pair(
+            &mut core,
+            &full(blocks[2 * i - 2]),
+            &full(blocks[2 * i - 1]),
+        ));
+    }
+    if m % 2 == 0 {
+        message.extend(df_last_two(&mut core, &full(blocks[m - 2]), blocks[m - 1]));
+    } else {
+        message.extend(df_last_one(&mut core, blocks[m - 1]));
+    }
+    let te = core.te(m, blocks[m - 1]);
+    (message, te)
+}
+
+/// DF, lines 5 to 8.
+fn df_pair(core: &mut Core, c_odd: &Block, c_even: &Block) -> Vec<u8> {
+    let m_odd = xor(&core.e_l_sharp(c_odd), c_even);
+    let m_even = xor(&core.e_l(&m_odd), c_odd);
+    core.add_to_sigma(&m_even);
+    core.step();
+    [m_odd, m_even].concat()
+}
+
+/// DF, lines 10 to 13.
+fn df_last_two(core: &mut Core, c_before: &Block, c_last: &[u8]) -> Vec<u8> {
+    let m_before = xor(&core.e_l_sharp(&pad(c_last)), c_before);
+    let z = core.e_l(&m_before);
+    let m_last = xor_first(&z, c_last);
+    core.add_to_sigma(&z);
+    core.add_to_sigma(&pad(c_last));
+    [&m_before[..], &m_last[..]].concat()
+}
+
+/// DF, lines 16 and 17; E(L) is E(L xor zero).
+fn df_last_one(core: &mut Core, c_last: &[u8]) -> Vec<u8> {
+    let m_last = xor_first(&core.e_l(&ZERO), c_last);
+    core.add_to_sigma(&pad(&m_last));
+    m_last
+}
