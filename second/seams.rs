@@ -2,6 +2,7 @@
 //! and that opening damaged.
 
 use crate::block::{partition, BLOCK_BYTES};
+use crate::call::DATA_MAX;
 use crate::failure::Failure;
 use crate::files;
 use crate::hex;
@@ -11,6 +12,7 @@ use crate::seam_lengths::{longest_nonces, Lengths, USUAL};
 
 const MESSAGES: [usize; 11] = [0, 1, 15, 16, 17, 31, 32, 33, 48, 16_383, 16_384];
 const MESSAGES_WITHOUT_DATA: [usize; 5] = [0, 1, 16, 17, 33];
+const DATA: [usize; 8] = [1, 15, 16, 17, 31, 32, 33, DATA_MAX];
 
 pub fn command(file_requests: &str, file_answers: &str) -> Result<String, Failure> {
     let mut table = format!(
@@ -43,7 +45,7 @@ fn sealings() -> Vec<Request> {
 }
 
 /// Each seam of the message; the longest nonce, and one byte more, which is refused, at
-/// every tag length; and no data.
+/// every tag length; no data; and each seam of the data.
 fn seams() -> Vec<Lengths> {
     let messages = MESSAGES.map(|message| Lengths { message, ..USUAL });
     let without_data = MESSAGES_WITHOUT_DATA.map(|message| Lengths {
@@ -55,6 +57,7 @@ fn seams() -> Vec<Lengths> {
         .into_iter()
         .chain(longest_nonces())
         .chain(without_data)
+        .chain(DATA.map(|data| Lengths { data, ..USUAL }))
         .collect()
 }
 

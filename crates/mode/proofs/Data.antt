@@ -1,4 +1,4 @@
--- The data pass in both forms: its blocks have 16 bytes, and so does TA. Assumes nothing.
+-- The data pass in both forms: its blocks have 16 bytes, and so does TA; and the parallel one is what it was. Assumes nothing.
 use mathlib.Core.Path.{_≡_, refl, sym, ap, ap₂, _∙_}
 use mathlib.Core.Bool.{Bool, true, false}
 use mathlib.Core.List.{List, [], _∷_}
@@ -77,22 +77,21 @@ module _ (E : List ℕ → List ℕ) (e : IsCipher E) where
     ta-none [] h = refl
     ta-none (b ∷ bs) h = absurd (omega arith)
 
-    ta-some : (a : List ℕ) → 1 ≤ length a → ta E d a ≡ dataEnd E d ((length a - 1) / 16) a (drop (16 * ((length a - 1) / 16)) a)
+    ta-some : (a : List ℕ) (n : ℕ) → 1 ≤ length a → n ≡ (length a - 1) / 16 → ta E d a ≡ dataEnd E d n a (drop (16 * n) a)
     unfolding ta blocks
-    ta-some [] h = absurd (omega arith)
-    ta-some (b ∷ bs) h =
-        let is : blocks (length (b ∷ bs)) - 1 ≡ (length (b ∷ bs) - 1) / 16 = omega arith in
-        ap (λ (n : ℕ). dataEnd E d n (b ∷ bs) (drop (16 * n) (b ∷ bs))) is
+    ta-some [] n some before = absurd (omega arith)
+    ta-some (b ∷ bs) n some before =
+        let is : blocks (length (b ∷ bs)) - 1 ≡ n = omega arith in
+        ap (λ (k : ℕ). dataEnd E d k (b ∷ bs) (drop (16 * k) (b ∷ bs))) is
 
     -- the same from a mask and a Ξ that are the pass's own
-    pub ta-is : (a mask xi : List ℕ) → 1 ≤ length a
-        → mask ≡ d .mask ((length a - 1) / 16) (ltb (length a - 16 * ((length a - 1) / 16)) 16) → xi ≡ d .xi ((length a - 1) / 16) a
-        → E (xor mask (xor xi (pad (drop (16 * ((length a - 1) / 16)) a)))) ≡ ta E d a
-    ta-is a mask xi some mask-is xi-is =
-        let n = (length a - 1) / 16 in
+    pub ta-is : (a : List ℕ) (n : ℕ) → 1 ≤ length a → n ≡ (length a - 1) / 16
+        → (mask xi : List ℕ) → mask ≡ d .mask n (ltb (length a - 16 * n) 16) → xi ≡ d .xi n a
+        → E (xor mask (xor xi (pad (drop (16 * n) a)))) ≡ ta E d a
+    ta-is a n some before mask xi mask-is xi-is =
         let x = drop (16 * n) a in
         let long : length a - 16 * n ≡ length x = sym (length-drop (16 * n) a) in
-        ap₂ (λ (k s : List ℕ). E (xor k (xor s (pad x)))) (mask-is ∙ ap (λ (k : ℕ). d .mask n (ltb k 16)) long) xi-is ∙ sym (ta-some a some)
+        ap₂ (λ (k s : List ℕ). E (xor k (xor s (pad x)))) (mask-is ∙ ap (λ (k : ℕ). d .mask n (ltb k 16)) long) xi-is ∙ sym (ta-some a n some before)
 
     length-ta : AreBlocks d → (a : List ℕ) → length (ta E d a) ≡ 16
     unfolding ta blocks
@@ -115,3 +114,29 @@ module _ (E : List ℕ → List ℕ) (e : IsCipher E) where
   unfolding ta
   first-q-with-data f q p [] h = refl
   first-q-with-data f q p (b ∷ bs) h = ap (λ (x : List ℕ). ta E (dataPass E x f) (b ∷ bs)) (h (omega arith))
+
+-- ---- TA as it was before there was a form: the parallel pass, with its Q within
+pub dataSumWas : (List ℕ → List ℕ) → ℕ → List ℕ → List ℕ
+dataSumWas E zero a = zeros 16
+dataSumWas E (suc n) a = xor (dataSumWas E n a) (E (xor (doubles n (E (zeros 16))) (block a (16 * n))))
+
+abbrev pub dataEndWas : (List ℕ → List ℕ) → ℕ → List ℕ → List ℕ → List ℕ
+dataEndWas E n a x = E (xor (dataFinal (ltb (length x) 16) (doubles n (E (zeros 16)))) (xor (dataSumWas E n a) (pad x)))
+
+pub taWas : (List ℕ → List ℕ) → List ℕ → List ℕ
+taWas E [] = zeros 16
+taWas E (b ∷ bs) =
+    dataEndWas E (blocks (length (b ∷ bs)) - 1) (b ∷ bs) (drop (16 * (blocks (length (b ∷ bs)) - 1)) (b ∷ bs))
+
+sum-as-it-was : (E : List ℕ → List ℕ) (n : ℕ) (a : List ℕ) → dataSum E (E (zeros 16)) n a ≡ dataSumWas E n a
+unfolding dataSum dataSumWas
+sum-as-it-was E zero a = refl
+sum-as-it-was E (suc n) a = ap (λ (s : List ℕ). xor s (E (xor (doubles n (E (zeros 16))) (block a (16 * n))))) (sum-as-it-was E n a)
+
+pub ta-as-it-was : (E : List ℕ → List ℕ) (a : List ℕ) → dataTag E parallel a ≡ taWas E a
+unfolding ta taWas
+ta-as-it-was E [] = refl
+ta-as-it-was E (b ∷ bs) =
+    let n = blocks (length (b ∷ bs)) - 1 in
+    let x = drop (16 * n) (b ∷ bs) in
+    ap (λ (s : List ℕ). E (xor (dataFinal (ltb (length x) 16) (doubles n (E (zeros 16)))) (xor s (pad x)))) (sum-as-it-was E n (b ∷ bs))

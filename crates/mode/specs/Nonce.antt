@@ -1,6 +1,6 @@
--- The nonce block (source document 000, Format in Fig. 1 and Fig. 3; document 02, wish 5), for nonces of k bytes, 1 to 15, and tags of t bytes.
--- In bits it is n2s(τ mod n, 7) ∥ 0…0 ∥ 1 ∥ N, where τ = 8t. The seven bits are the first of byte 0, and the 1 is the last of byte
--- 15 − k: at k = 15 that is byte 0 too, so the two parts are added.
+-- The nonce block (source document 000, Format in Fig. 1 and Fig. 3; document 02, wish 5), for nonces of k bytes, 1 to 15, and tags of
+-- t bytes. In bits it is n2s(τ mod n, 7) ∥ 0…0 ∥ 1 ∥ N, where τ = 8t. The seven bits are the first of byte 0, and the 1 is the last of
+-- byte 15 − k: at k = 15 that is byte 0 too, so the two parts are added.
 use mathlib.Core.List.{List, _∷_, _++_, zipWith}
 use Prim.Native.Nat.{ℕ, _+_, _-_, _*_, _%_}
 use lib.ListN.{length}

@@ -1,12 +1,12 @@
 // What the associated data pass does in either form.
 ghost use mathlib.Core.Path.{_≡_};
-ghost use Prim.Native.Nat.{_+_, _*_, _≤_, _<_};
-ghost use lib.ListN.{length, drop};
-ghost use Rattle.lists.specs.Xor.{xor};
+ghost use Prim.Native.Nat.{_-_, _*_, _/_, _≤_, _<_};
+ghost use lib.Dec.{ltb};
+ghost use lib.ListN.{length};
 ghost use Rattle.lists.specs.Zeros.{zeros};
 ghost use Rattle.field.specs.Substitution.{sbox};
 ghost use Rattle.aes.specs.Cipher.{cipher};
-ghost use Rattle.block.specs.Block.{pad};
+ghost use Rattle.mode.specs.Data.{DataPass, ta as taOf};
 
 // The first Q, E of the zero block. It is needed only where there is data, and ciphered only there.
 pub fn first_q(table: &[u8; 256], w: &[u8; 240], nr: usize, a: &[u8]) -> [u8; 16]
@@ -20,8 +20,18 @@ pub fn first_q(table: &[u8; 256], w: &[u8; 240], nr: usize, a: &[u8]) -> [u8; 16
     aes::encrypt(table, w, nr, block::zeros())
 }
 
-// The last block of a, behind n others that came to xi.
-pub fn end(
+// The number of blocks before the last, for data of so many bytes; 0 for none.
+pub fn before_last(bytes: usize) -> usize
+    ensures { λ r. ⌜ r ≡ (bytes - 1) / 16 ⌝ }
+{
+    if bytes == 0 {
+        return 0;
+    }
+    (bytes - 1) / 16
+}
+
+// TA of a, from the last block's mask and from what the n blocks before it come to, xi; whichever pass d has these.
+pub fn ta(
     table: &[u8; 256],
     w: &[u8; 240],
     nr: usize,
@@ -32,9 +42,12 @@ pub fn end(
 ) -> [u8; 16]
     requires { ⌜ now table ≡ sbox ⌝ }
     requires { ⌜ (0 < nr) × (nr ≤ 14) ⌝ }
-    requires { ⌜ (16 * n ≤ length (now a)) × (length (now a) ≤ 16 * n + 16) ⌝ }
-    ensures { λ r. ⌜ r ≡ cipher nr (now (w .entry)) (xor mask (xor xi (pad (drop (16 * n) (now (a .entry)))))) ⌝ }
+    requires { ⌜ n ≡ (length (now a) - 1) / 16 ⌝ }
+    ensures { λ r. ⌜ ((d : DataPass) → mask ≡ d .mask n (ltb (length (now (a .entry)) - 16 * n) 16) → xi ≡ d .xi n (now (a .entry)) → r ≡ taOf (cipher nr (now (w .entry))) d (now (a .entry))) ⌝ }
 {
+    if a.len() == 0 {
+        return block::zeros();
+    }
     let left = a.len() - 16 * n;
     let last = block::read(a, 16 * n, left);
     let sum = block::xor(xi, block::pad(last, left));

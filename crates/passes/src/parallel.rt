@@ -59,13 +59,10 @@ pub fn ta(table: &[u8; 256], w: &[u8; 240], nr: usize, q: [u8; 16], a: &[u8]) ->
     requires { ⌜ (0 < nr) × (nr ≤ 14) ⌝ }
     ensures { λ r. ⌜ r ≡ taOf (cipher nr (now (w .entry))) (dataPass (cipher nr (now (w .entry))) q parallel) (now (a .entry)) ⌝ }
 {
-    if a.len() == 0 {
-        return block::zeros();
-    }
-    let n = (a.len() - 1) / 16;
+    let n = data::before_last(a.len());
     let front = data_sum(table, w, nr, q, a, n);
     let behind = front.q;
     let sum = front.sum;
     let mask = data_mask(behind, a.len() - 16 * n);
-    data::end(table, w, nr, a, n, mask, sum)
+    data::ta(table, w, nr, a, n, mask, sum)
 }

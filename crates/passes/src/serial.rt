@@ -42,11 +42,8 @@ pub fn ta(table: &[u8; 256], w: &[u8; 240], nr: usize, q: [u8; 16], a: &[u8]) ->
     requires { ⌜ (0 < nr) × (nr ≤ 14) ⌝ }
     ensures { λ r. ⌜ r ≡ taOf (cipher nr (now (w .entry))) (dataPass (cipher nr (now (w .entry))) q serial) (now (a .entry)) ⌝ }
 {
-    if a.len() == 0 {
-        return block::zeros();
-    }
-    let n = (a.len() - 1) / 16;
+    let n = data::before_last(a.len());
     let xi = chain(table, w, nr, a, n);
     let mask = chain_mask(q, a.len() - 16 * n);
-    data::end(table, w, nr, a, n, mask, xi)
+    data::ta(table, w, nr, a, n, mask, xi)
 }
