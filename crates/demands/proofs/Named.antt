@@ -85,24 +85,37 @@ module _ (E : List ℕ → List ℕ) (e : IsCipher E) (v a m : List ℕ) (t : �
       place : 32 * n ≡ length front + 0
       place = omega (arith, front-long)
 
+-- the named key, expanded: each run below then has its round keys at hand
+w : List ℕ
+w = bytes 176 0x00000000000000000000000000000000626363636263636362636363626363639b9898c9f9fbfbaa9b9898c9f9fbfbaa90973450696ccffaf2f457330b0fac99ee06da7b876a1581759e42b27e91ee2b7f2e2b88f8443e098dda7cbbf34b9290ec614b851425758c99ff09376ab49ba7217517873550620bacaf6b3cc61bf09b0ef903333ba9613897060a04511dfa9fb1d4d8e28a7db9da1d7bb3de4c664941b4ef5bcb3e92e21123e951cf6f8f188e
+
+w-is : keyExpansion key ≡ w
+unfolding w xor product inverse affine substitute power temp next words keyExpansion
+w-is = refl
+
+aes-is : (x : List ℕ) → aes key x ≡ cipher 10 w x
+unfolding aes
+aes-is x = ap (λ (k : List ℕ). cipher 10 k x) w-is
+
 -- what a message seals to from the nonce block b, and its byte behind the pairs, where v is E(b)
 abbrev pub from-block : Form → List ℕ → ℕ → List ℕ → List ℕ
 from-block f b t m = sealed (aes key) (third (firstMask f (aes key b) (dataTag (aes key) f []))) (intoTag f (dataTag (aes key) f [])) t m
 
-byte-from : (f : Form) (b v m : List ℕ) (t : ℕ) → length b ≡ 16 → aes key b ≡ v → even (length m) ≡ false → 32 * pairsOf (length m) < length m
+byte-from : (f : Form) (b v m : List ℕ) (t : ℕ) → length b ≡ 16 → cipher 10 w b ≡ v → even (length m) ≡ false → 32 * pairsOf (length m) < length m
     → getD (from-block f b t m) (32 * pairsOf (length m)) 0
-    ≡ bitXor (getD m (32 * pairsOf (length m)) 0) (getD (aes key (doubles (pairsOf (length m)) (doubles (doublings f) v))) 0 0)
+    ≡ bitXor (getD m (32 * pairsOf (length m)) 0) (getD (cipher 10 w (doubles (pairsOf (length m)) (doubles (doublings f) v))) 0 0)
 byte-from f b v m t h is odd some =
     let a = intoTag f (dataTag (aes key) f []) in
     let i = 32 * pairsOf (length m) in
     let long : length (aes key b) ≡ 16 = aes-cipher key b h in
     ap (λ (u : List ℕ). getD (sealed (aes key) (third u) a t m) i 0) (without-data (aes key) f (aes key b) long)
     ∙ byte-behind (aes key) (aes-cipher key) (doubles (doublings f) (aes key b)) a m t (length-doubles (doublings f) (aes key b) long) odd some
-    ∙ ap (λ (u : List ℕ). bitXor (getD m i 0) (getD (aes key (doubles (pairsOf (length m)) (doubles (doublings f) u))) 0 0)) is
+    ∙ ap (λ (u : List ℕ). bitXor (getD m i 0) (getD (aes key (doubles (pairsOf (length m)) (doubles (doublings f) u))) 0 0)) (aes-is b ∙ is)
+    ∙ ap (λ (y : List ℕ). bitXor (getD m i 0) (getD y 0 0)) (aes-is (doubles (pairsOf (length m)) (doubles (doublings f) v)))
 
 -- of one byte 0 the first
-first-from : (f : Form) (b v : List ℕ) (t : ℕ) → length b ≡ 16 → aes key b ≡ v
-    → getD (from-block f b t (one 0)) 0 0 ≡ bitXor 0 (getD (aes key (doubles (doublings f) v)) 0 0)
+first-from : (f : Form) (b v : List ℕ) (t : ℕ) → length b ≡ 16 → cipher 10 w b ≡ v
+    → getD (from-block f b t (one 0)) 0 0 ≡ bitXor 0 (getD (cipher 10 w (doubles (doublings f) v)) 0 0)
 unfolding blocks pairsOf even doubles
 first-from f b v t h is = byte-from f b v (one 0) t h is refl (omega arith)
 
@@ -110,23 +123,23 @@ first-from f b v t h is = byte-from f b v (one 0) t h is refl (omega arith)
 v12 : List ℕ
 v12 = bytes 16 0xee944b2fe6e9fc888042608da9615f75
 
-v12-is : aes key (format 16 nonce) ≡ v12
-unfolding v12 xor zeros zipWith format product inverse affine substitute addRoundKey round lastRound rounds cipher power temp next words keyExpansion aes
+v12-is : cipher 10 w (format 16 nonce) ≡ v12
+unfolding w v12 xor zeros zipWith format product inverse affine substitute addRoundKey round lastRound rounds cipher
 v12-is = refl
 
 block-long : length (format 16 nonce) ≡ 16
 block-long = length-format 16 nonce (omega arith)
 
-mask-0 : getD (aes key (doubles 0 v12)) 0 0 ≡ 0xe0
-unfolding v12 xor zeros shift double doubles product inverse affine substitute addRoundKey round lastRound rounds cipher power temp next words keyExpansion aes
+mask-0 : getD (cipher 10 w (doubles 0 v12)) 0 0 ≡ 0xe0
+unfolding w v12 xor zeros shift double doubles product inverse affine substitute addRoundKey round lastRound rounds cipher
 mask-0 = refl
 
-mask-1 : getD (aes key (doubles 1 v12)) 0 0 ≡ 0x3a
-unfolding v12 xor zeros shift double doubles product inverse affine substitute addRoundKey round lastRound rounds cipher power temp next words keyExpansion aes
+mask-1 : getD (cipher 10 w (doubles 1 v12)) 0 0 ≡ 0x3a
+unfolding w v12 xor zeros shift double doubles product inverse affine substitute addRoundKey round lastRound rounds cipher
 mask-1 = refl
 
-mask-2 : getD (aes key (doubles 2 v12)) 0 0 ≡ 0x04
-unfolding v12 xor zeros shift double doubles product inverse affine substitute addRoundKey round lastRound rounds cipher power temp next words keyExpansion aes
+mask-2 : getD (cipher 10 w (doubles 2 v12)) 0 0 ≡ 0x04
+unfolding w v12 xor zeros shift double doubles product inverse affine substitute addRoundKey round lastRound rounds cipher
 mask-2 = refl
 
 -- the first byte that the byte 0 seals to
@@ -160,23 +173,23 @@ second-some serial h = omega arith
 v15 : List ℕ
 v15 = bytes 16 0x6fcc84c6d631595a514057a8f1af8648
 
-v15-is : aes key (format 15 nonce15) ≡ v15
-unfolding v15 xor zeros zipWith format product inverse affine substitute addRoundKey round lastRound rounds cipher power temp next words keyExpansion aes
+v15-is : cipher 10 w (format 15 nonce15) ≡ v15
+unfolding w v15 xor zeros zipWith format product inverse affine substitute addRoundKey round lastRound rounds cipher
 v15-is = refl
 
 laid : List ℕ
 laid = bytes 16 0x47711816e91d6ff059bbbf2bf58e0fd3
 
-laid-is : aes key (1 ∷ nonce15) ≡ laid
-unfolding laid xor product inverse affine substitute addRoundKey round lastRound rounds cipher power temp next words keyExpansion aes
+laid-is : cipher 10 w (1 ∷ nonce15) ≡ laid
+unfolding w laid xor product inverse affine substitute addRoundKey round lastRound rounds cipher
 laid-is = refl
 
 abbrev pub byte15 : Form → ℕ
 byte15 parallel = 0x99
 byte15 serial = 0x51
 
-mask15 : (f : Form) → getD (aes key (doubles (doublings f) v15)) 0 0 ≡ byte15 f
-unfolding v15 xor zeros shift double doubles product inverse affine substitute addRoundKey round lastRound rounds cipher power temp next words keyExpansion aes
+mask15 : (f : Form) → getD (cipher 10 w (doubles (doublings f) v15)) 0 0 ≡ byte15 f
+unfolding w v15 xor zeros shift double doubles product inverse affine substitute addRoundKey round lastRound rounds cipher
 mask15 parallel = refl
 mask15 serial = refl
 
@@ -184,8 +197,8 @@ abbrev pub byteLaid : Form → ℕ
 byteLaid parallel = 0x83
 byteLaid serial = 0x39
 
-maskLaid : (f : Form) → getD (aes key (doubles (doublings f) laid)) 0 0 ≡ byteLaid f
-unfolding laid xor zeros shift double doubles product inverse affine substitute addRoundKey round lastRound rounds cipher power temp next words keyExpansion aes
+maskLaid : (f : Form) → getD (cipher 10 w (doubles (doublings f) laid)) 0 0 ≡ byteLaid f
+unfolding w laid xor zeros shift double doubles product inverse affine substitute addRoundKey round lastRound rounds cipher
 maskLaid parallel = refl
 maskLaid serial = refl
 
