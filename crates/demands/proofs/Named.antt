@@ -1,6 +1,6 @@
 -- The named inputs of the wrong programs, and the bytes of theirs that are computed: in both forms, with no associated data. Assumes
 -- nothing.
-use mathlib.Core.Path.{_≡_, refl, ap, _∙_}
+use mathlib.Core.Path.{_≡_, refl, sym, ap, _∙_}
 use mathlib.Core.Bool.{false}
 use mathlib.Core.List.{List, [], _∷_, _++_, zipWith, append-assoc}
 use Prim.Native.Nat.{ℕ, _+_, _*_, _<_}
@@ -26,7 +26,6 @@ use Rattle.mode.specs.Sealing.{tag, sealed, firstMask, intoTag, dataTag, otr}
 use Rattle.mode.proofs.Data.{length-doubles}
 use Rattle.mode.proofs.Pairs.{length-pairs}
 use Rattle.mode.proofs.Parts.{body-parts}
-use Rattle.mode.proofs.Format.{length-format}
 use Rattle.mode.proofs.Third.{third-masks, doublings, without-data}
 use Rattle.link.proofs.Entries.{aes-cipher}
 
@@ -113,102 +112,90 @@ byte-from f b v m t h is odd some =
     ∙ ap (λ (u : List ℕ). bitXor (getD m i 0) (getD (aes key (doubles (pairsOf (length m)) (doubles (doublings f) u))) 0 0)) (aes-is b ∙ is)
     ∙ ap (λ (y : List ℕ). bitXor (getD m i 0) (getD y 0 0)) (aes-is (doubles (pairsOf (length m)) (doubles (doublings f) v)))
 
--- of one byte 0 the first
-first-from : (f : Form) (b v : List ℕ) (t : ℕ) → length b ≡ 16 → cipher 10 w b ≡ v
-    → getD (from-block f b t (one 0)) 0 0 ≡ bitXor 0 (getD (cipher 10 w (doubles (doublings f) v)) 0 0)
-unfolding blocks pairsOf even doubles
-first-from f b v t h is = byte-from f b v (one 0) t h is refl (omega arith)
+-- ---- what is computed of a nonce block b: v = E(b), and in each form the first byte of E(U)
+record Runs (b v : List ℕ) (byte : Form → ℕ) : Type 0 where
+  long : length b ≡ 16
+  is : cipher 10 w b ≡ v
+  first : (f : Form) → getD (cipher 10 w (doubles (doublings f) v)) 0 0 ≡ byte f
 
--- ---- v = E(Format) for the nonce of 12 and a tag of 16, and the first bytes of E(v), E(2v) and E(4v)
-v12 : List ℕ
+either : (P : Form → Type 0) → P parallel → P serial → (f : Form) → P f
+either P p s parallel = p
+either P p s serial = s
+
+-- so the first byte that the byte 0 seals to
+first-of : (b v : List ℕ) (byte : Form → ℕ) → Runs b v byte → (f : Form) (t : ℕ) → getD (from-block f b t (one 0)) 0 0 ≡ bitXor 0 (byte f)
+unfolding blocks pairsOf even doubles
+first-of b v byte k f t = byte-from f b v (one 0) t (k .long) (k .is) refl (omega arith) ∙ ap (bitXor 0) (k .first f)
+
+-- the nonce of 12 and a tag of 16
+abbrev v12 : List ℕ
 v12 = bytes 16 0xee944b2fe6e9fc888042608da9615f75
 
-v12-is : cipher 10 w (format 16 nonce) ≡ v12
-unfolding w v12 xor zeros zipWith format product inverse affine substitute addRoundKey round lastRound rounds cipher
-v12-is = refl
+abbrev byte12 : Form → ℕ
+byte12 parallel = 0xe0
+byte12 serial = 0x3a
 
-block-long : length (format 16 nonce) ≡ 16
-block-long = length-format 16 nonce (omega arith)
+runs-12 : Runs (format 16 nonce) v12 byte12
+unfolding w xor zeros zipWith format shift double doubles product inverse affine substitute addRoundKey round lastRound rounds cipher
+runs-12 = record { long = refl; is = refl; first = either (λ f. getD (cipher 10 w (doubles (doublings f) v12)) 0 0 ≡ byte12 f) refl refl }
 
-mask-0 : getD (cipher 10 w (doubles 0 v12)) 0 0 ≡ 0xe0
-unfolding w v12 xor zeros shift double doubles product inverse affine substitute addRoundKey round lastRound rounds cipher
-mask-0 = refl
-
-mask-1 : getD (cipher 10 w (doubles 1 v12)) 0 0 ≡ 0x3a
-unfolding w v12 xor zeros shift double doubles product inverse affine substitute addRoundKey round lastRound rounds cipher
-mask-1 = refl
-
-mask-2 : getD (cipher 10 w (doubles 2 v12)) 0 0 ≡ 0x04
-unfolding w v12 xor zeros shift double doubles product inverse affine substitute addRoundKey round lastRound rounds cipher
-mask-2 = refl
-
--- the first byte that the byte 0 seals to
-abbrev pub firstByte : Form → ℕ
-firstByte parallel = 0xe0
-firstByte serial = 0x3a
-
-pub first-byte : (f : Form) → getD (otr (aes key) f nonce [] 16 (one 0)) 0 0 ≡ firstByte f
-first-byte parallel = first-from parallel (format 16 nonce) v12 16 block-long v12-is ∙ ap (bitXor 0) mask-0
-first-byte serial = first-from serial (format 16 nonce) v12 16 block-long v12-is ∙ ap (bitXor 0) mask-1
-
-pub first-some : (f : Form) → firstByte f ≡ 0 → ⊥
-first-some parallel h = omega arith
-first-some serial h = omega arith
-
--- the last byte that 33 zeros seal to, behind their pair
-abbrev pub secondByte : Form → ℕ
-secondByte parallel = 0x3a
-secondByte serial = 0x04
-
-pub byte-32 : (f : Form) → getD (otr (aes key) f nonce [] 16 m33) 32 0 ≡ secondByte f
-unfolding blocks pairsOf even doubles
-byte-32 parallel = byte-from parallel (format 16 nonce) v12 m33 16 block-long v12-is refl (omega arith) ∙ ap (bitXor 0) mask-1
-byte-32 serial = byte-from serial (format 16 nonce) v12 m33 16 block-long v12-is refl (omega arith) ∙ ap (bitXor 0) mask-2
-
-pub second-some : (f : Form) → secondByte f ≡ 0 → ⊥
-second-some parallel h = omega arith
-second-some serial h = omega arith
-
--- ---- the same for the nonce of 15 and a tag of 15, and for the block where the marker lies over the tag byte: 01 and the nonce
-v15 : List ℕ
+-- the nonce of 15 and a tag of 15
+abbrev v15 : List ℕ
 v15 = bytes 16 0x6fcc84c6d631595a514057a8f1af8648
 
-v15-is : cipher 10 w (format 15 nonce15) ≡ v15
-unfolding w v15 xor zeros zipWith format product inverse affine substitute addRoundKey round lastRound rounds cipher
-v15-is = refl
-
-laid : List ℕ
-laid = bytes 16 0x47711816e91d6ff059bbbf2bf58e0fd3
-
-laid-is : cipher 10 w (1 ∷ nonce15) ≡ laid
-unfolding w laid xor product inverse affine substitute addRoundKey round lastRound rounds cipher
-laid-is = refl
-
-abbrev pub byte15 : Form → ℕ
+abbrev byte15 : Form → ℕ
 byte15 parallel = 0x99
 byte15 serial = 0x51
 
-mask15 : (f : Form) → getD (cipher 10 w (doubles (doublings f) v15)) 0 0 ≡ byte15 f
-unfolding w v15 xor zeros shift double doubles product inverse affine substitute addRoundKey round lastRound rounds cipher
-mask15 parallel = refl
-mask15 serial = refl
+runs-15 : Runs (format 15 nonce15) v15 byte15
+unfolding w xor zeros zipWith format shift double doubles product inverse affine substitute addRoundKey round lastRound rounds cipher
+runs-15 = record { long = refl; is = refl; first = either (λ f. getD (cipher 10 w (doubles (doublings f) v15)) 0 0 ≡ byte15 f) refl refl }
 
-abbrev pub byteLaid : Form → ℕ
+-- the same with the marker laid over the tag byte: 01 and the nonce
+abbrev vLaid : List ℕ
+vLaid = bytes 16 0x47711816e91d6ff059bbbf2bf58e0fd3
+
+abbrev byteLaid : Form → ℕ
 byteLaid parallel = 0x83
 byteLaid serial = 0x39
 
-maskLaid : (f : Form) → getD (cipher 10 w (doubles (doublings f) laid)) 0 0 ≡ byteLaid f
-unfolding w laid xor zeros shift double doubles product inverse affine substitute addRoundKey round lastRound rounds cipher
-maskLaid parallel = refl
-maskLaid serial = refl
+runs-laid : Runs (1 ∷ nonce15) vLaid byteLaid
+unfolding w xor zeros zipWith format shift double doubles product inverse affine substitute addRoundKey round lastRound rounds cipher
+runs-laid = record { long = refl; is = refl; first = either (λ f. getD (cipher 10 w (doubles (doublings f) vLaid)) 0 0 ≡ byteLaid f) refl refl }
 
--- the first bytes that the byte 0 seals to, from either
-pub first-15 : (f : Form) → getD (otr (aes key) f nonce15 [] 15 (one 0)) 0 0 ≡ bitXor 0 (byte15 f)
-first-15 f = first-from f (format 15 nonce15) v15 15 (length-format 15 nonce15 (omega arith)) v15-is ∙ ap (bitXor 0) (mask15 f)
+-- and E(4v), for the nonce of 12
+fourfold : getD (cipher 10 w (doubles 2 v12)) 0 0 ≡ 0x04
+unfolding w xor zeros zipWith format shift double doubles product inverse affine substitute addRoundKey round lastRound rounds cipher
+fourfold = refl
 
-pub first-laid : (f : Form) → getD (from-block f (1 ∷ nonce15) 15 (one 0)) 0 0 ≡ bitXor 0 (byteLaid f)
-first-laid f = first-from f (1 ∷ nonce15) laid 15 refl laid-is ∙ ap (bitXor 0) (maskLaid f)
+-- ---- the bytes that the wrong programs get wrong
+-- the first that the byte 0 seals to: not 0, and not the same in both forms
+first-byte : (f : Form) → getD (otr (aes key) f nonce [] 16 (one 0)) 0 0 ≡ bitXor 0 (byte12 f)
+first-byte f = first-of (format 16 nonce) v12 byte12 runs-12 f 16
 
-pub laid-apart : (f : Form) → bitXor 0 (byteLaid f) ≡ bitXor 0 (byte15 f) → ⊥
-laid-apart parallel h = let z : _≡_ {A = ℕ} 0x83 0x99 = h in omega arith
-laid-apart serial h = let z : _≡_ {A = ℕ} 0x39 0x51 = h in omega arith
+pub first-some : (f : Form) → getD (otr (aes key) f nonce [] 16 (one 0)) 0 0 ≡ 0 → ⊥
+first-some parallel h = let z : _≡_ {A = ℕ} 0xe0 0 = sym (first-byte parallel) ∙ h in omega arith
+first-some serial h = let z : _≡_ {A = ℕ} 0x3a 0 = sym (first-byte serial) ∙ h in omega arith
+
+pub forms-apart : otr (aes key) parallel nonce [] 16 (one 0) ≡ otr (aes key) serial nonce [] 16 (one 0) → ⊥
+forms-apart e =
+    let z : _≡_ {A = ℕ} 0xe0 0x3a = sym (first-byte parallel) ∙ ap (λ (l : List ℕ). getD l 0 0) e ∙ first-byte serial in
+    omega arith
+
+-- the last that 33 zeros seal to, behind their pair
+byte-32 : (f : Form) → getD (otr (aes key) f nonce [] 16 m33) 32 0 ≡ bitXor 0 (getD (cipher 10 w (double (doubles (doublings f) v12))) 0 0)
+unfolding blocks pairsOf even doubles
+byte-32 f = byte-from f (format 16 nonce) v12 m33 16 (runs-12 .long) (runs-12 .is) refl (omega arith)
+
+pub last-some : (f : Form) → getD (otr (aes key) f nonce [] 16 m33) 32 0 ≡ 0 → ⊥
+unfolding doubles
+last-some parallel h = let z : _≡_ {A = ℕ} 0x3a 0 = sym (byte-32 parallel ∙ ap (bitXor 0) (runs-12 .first serial)) ∙ h in omega arith
+last-some serial h = let z : _≡_ {A = ℕ} 0x04 0 = sym (byte-32 serial ∙ ap (bitXor 0) fourfold) ∙ h in omega arith
+
+-- the first from the block with the marker laid over the tag byte, which differs from the right one
+pub laid-apart : (f : Form) → getD (from-block f (1 ∷ nonce15) 15 (one 0)) 0 0 ≡ getD (otr (aes key) f nonce15 [] 15 (one 0)) 0 0 → ⊥
+laid-apart f h = differ f (sym (first-of (1 ∷ nonce15) vLaid byteLaid runs-laid f 15) ∙ h ∙ first-of (format 15 nonce15) v15 byte15 runs-15 f 15)
+  where
+    differ : (f : Form) → bitXor 0 (byteLaid f) ≡ bitXor 0 (byte15 f) → ⊥
+    differ parallel h = let z : _≡_ {A = ℕ} 0x83 0x99 = h in omega arith
+    differ serial h = let z : _≡_ {A = ℕ} 0x39 0x51 = h in omega arith

@@ -22,7 +22,7 @@ use Rattle.demands.specs.Calls.{Limits}
 use Rattle.demands.proofs.Demand1.{sealing-answers, opening-answers}
 use Rattle.demands.proofs.Demand2.{is-sealed, round-trip}
 use Rattle.demands.proofs.Demand3.{opening}
-use Rattle.demands.proofs.Named.{key, nonce, nonce15, one, m33, from-block, first-byte, first-some, byte-32, second-some, first-15, first-laid, laid-apart}
+use Rattle.demands.proofs.Named.{key, nonce, nonce15, one, m33, from-block, first-some, forms-apart, last-some, laid-apart}
 
 -- buffers of 17 zeros, of one, of 49 and of 16
 abbrev pub room : List ℕ
@@ -123,8 +123,7 @@ module _ (form : ℕ) (named : form ≤ 1) where
   -- ---- copies the plaintext through, or is done and writes nothing: the first byte would still be 0
   pub copies-through : (r : Answer) (after : List ℕ) → getD after 0 0 ≡ 0 → Seals form key nonce [] (one 0) 16 room r after → ⊥
   unfolding s
-  copies-through r after h p =
-      first-some (formOf form) (sym (first-byte (formOf form)) ∙ sym (ap (λ (l : List ℕ). getD l 0 0) (sealed-one 0 r after p .1)) ∙ h)
+  copies-through r after h p = first-some (formOf form) (sym (ap (λ (l : List ℕ). getD l 0 0) (sealed-one 0 r after p .1)) ∙ h)
 
   pub writes-nothing : (r : Answer) → Seals form key nonce [] (one 0) 16 room r room → ⊥
   writes-nothing r p = copies-through r room refl p
@@ -132,10 +131,8 @@ module _ (form : ℕ) (named : form ≤ 1) where
   -- ---- seals the first pair and copies the rest: of 33 zeros the last byte would still be 0
   pub first-pair-alone : (r : Answer) (after : List ℕ) → getD after 32 0 ≡ 0 → Seals form key nonce [] m33 16 room33 r after → ⊥
   first-pair-alone r after h p =
-      second-some (formOf form)
-      (sym (byte-32 (formOf form))
-      ∙ sym (ap (λ (l : List ℕ). getD l 32 0) (all-sealed nonce m33 16 room33 limits (omega arith) refl r after p .1))
-      ∙ h)
+      last-some (formOf form)
+      (sym (ap (λ (l : List ℕ). getD l 32 0) (all-sealed nonce m33 16 room33 limits (omega arith) refl r after p .1)) ∙ h)
 
   -- ---- a nonce of 15 bytes and a tag of 15: byte 0 of the nonce block is f1
   limits-15 : Limits form 16 15 15 0
@@ -157,8 +154,7 @@ module _ (form : ℕ) (named : form ≤ 1) where
   -- lays the marker over the tag byte, so that the nonce block is 01 and the nonce
   pub marker-laid-over : (r : Answer) → Seals form key nonce15 [] (one 0) 15 room16 r (from-block (formOf form) (1 ∷ nonce15) 15 (one 0)) → ⊥
   marker-laid-over r p =
-      let f = formOf form in
-      laid-apart f (sym (first-laid f) ∙ ap (λ (l : List ℕ). getD l 0 0) (sealed-15 r (from-block f (1 ∷ nonce15) 15 (one 0)) p .1) ∙ first-15 f)
+      laid-apart (formOf form) (ap (λ (l : List ℕ). getD l 0 0) (sealed-15 r (from-block (formOf form) (1 ∷ nonce15) 15 (one 0)) p .1))
 
   -- ---- takes a nonce of 16 bytes
   pub takes-16 : (r : Answer) (after : List ℕ) → numberOf r ≡ 0 → Seals form key (bytes 16 0) [] (one 0) 16 room r after → ⊥
@@ -167,14 +163,9 @@ module _ (form : ℕ) (named : form ≤ 1) where
       omega arith
 
 -- ---- takes every call for parallel: what form 0's promise allows, form 1's does not
-forms-apart : s 0 0 ≡ s 1 0 → ⊥
-unfolding s
-forms-apart e =
-    let z : _≡_ {A = ℕ} 0xe0 0x3a = sym (first-byte parallel) ∙ ap (λ (l : List ℕ). getD l 0 0) e ∙ first-byte serial in
-    omega arith
-
 pub seals-as-parallel : (r : Answer) (after : List ℕ)
     → Seals 0 key nonce [] (one 0) 16 room r after → Seals 1 key nonce [] (one 0) 16 room r after → ⊥
+unfolding s
 seals-as-parallel r after p q = forms-apart (sym (sealed-one 0 (omega arith) 0 r after p .1) ∙ sealed-one 1 (omega arith) 0 r after q .1)
 
 -- opening: were it done as parallel, with the message that form 1 wants, both forms would seal that one alike

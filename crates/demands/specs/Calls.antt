@@ -14,29 +14,25 @@ firstFailing [] = 0
 firstFailing ((n, true) ∷ checks) = firstFailing checks
 firstFailing ((n, false) ∷ checks) = n
 
--- check 8 of document 02's wish 1, and document 01's checks 1 to 6 (check 2 as wish 5 has it), for sealing a message and for opening
--- sealed bytes
-abbrev pub sealChecks : ℕ → List ℕ → List ℕ → List ℕ → List ℕ → ℕ → List ℕ → List (ℕ × Bool)
-sealChecks form key nonce ad m t out =
+-- check 8 of document 02's wish 1 and document 01's checks 1 to 4 (check 2 as wish 5 has it), which sealing and opening share, and what
+-- comes after them
+abbrev pub callChecks : ℕ → List ℕ → List ℕ → List ℕ → ℕ → List (ℕ × Bool) → List (ℕ × Bool)
+callChecks form key nonce ad t checks =
     (8, leb form 1)
     ∷ (1, eqb (length key) 16 || (eqb (length key) 24 || eqb (length key) 32))
     ∷ (2, from-to 1 15 (length nonce))
     ∷ (3, from-to 4 16 t)
     ∷ (4, leb (length ad) 4096)
-    ∷ (5, leb (length m) 16384)
-    ∷ (6, leb (length m + t) (length out))
-    ∷ []
+    ∷ checks
+
+-- all seven, for sealing a message and for opening sealed bytes
+abbrev pub sealChecks : ℕ → List ℕ → List ℕ → List ℕ → List ℕ → ℕ → List ℕ → List (ℕ × Bool)
+sealChecks form key nonce ad m t out =
+    callChecks form key nonce ad t ((5, leb (length m) 16384) ∷ (6, leb (length m + t) (length out)) ∷ [])
 
 abbrev pub openChecks : ℕ → List ℕ → List ℕ → List ℕ → List ℕ → ℕ → List ℕ → List (ℕ × Bool)
 openChecks form key nonce ad s t out =
-    (8, leb form 1)
-    ∷ (1, eqb (length key) 16 || (eqb (length key) 24 || eqb (length key) 32))
-    ∷ (2, from-to 1 15 (length nonce))
-    ∷ (3, from-to 4 16 t)
-    ∷ (4, leb (length ad) 4096)
-    ∷ (5, from-to t (16384 + t) (length s))
-    ∷ (6, leb (length s - t) (length out))
-    ∷ []
+    callChecks form key nonce ad t ((5, from-to t (16384 + t) (length s)) ∷ (6, leb (length s - t) (length out)) ∷ [])
 
 -- the limits on the form and on the lengths of key, nonce, tag and associated data (document 01; document 02, wishes 1 and 5)
 pub record Limits (form key nonce t ad : ℕ) : Type 0 where

@@ -1,5 +1,5 @@
--- The message pass (document 01; source document 000, Fig. 1, EF), over any cipher E and any masks. Fig. 3's EF-S is the same behind U,
--- with each line's number one higher.
+-- The message pass (document 01; source document 000, Fig. 1, EF), over any cipher E and any masks. Fig. 3's EF-S is the same behind U;
+-- what is line n here is its line n + 1, from line 3 on.
 use mathlib.Core.Bool.{Bool, true, false}
 use mathlib.Core.List.{List, [], _++_}
 use Prim.Native.Nat.{ℕ, zero, suc, _+_, _-_, _*_, _/_, _%_, max}

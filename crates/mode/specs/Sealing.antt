@@ -30,10 +30,12 @@ abbrev pub intoTag : Form → List ℕ → List ℕ
 intoTag parallel a = a
 intoTag serial a = zeros 16
 
--- ---- AES-OTR v3.1, over any cipher E: form, nonce, associated data, tag length, message
+-- ---- AES-OTR v3.1, over any cipher E
+-- TA of the associated data, in the form f
 abbrev pub dataTag : (List ℕ → List ℕ) → Form → List ℕ → List ℕ
 dataTag E f ad = ta E (dataPass E (E (zeros 16)) f) ad
 
+-- for form, nonce, associated data and tag length: U, the masks, what goes into the tag, and what a message seals to
 module _ (E : List ℕ → List ℕ) (f : Form) (nonce ad : List ℕ) (t : ℕ) where
   abbrev pub u : List ℕ
   u = firstMask f (E (format t nonce)) (dataTag E f ad)

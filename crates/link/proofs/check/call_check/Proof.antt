@@ -1,10 +1,11 @@
 -- `link::check::call_check` meets its contract, check by check. Assumes nothing.
-use mathlib.Core.Path.{_≡_, sym, _∙_}
+use mathlib.Core.Path.{_≡_, sym, ap, _∙_}
 use mathlib.Core.Bool.{true, _||_}
 use Prim.Native.Nat.{_≤_, _<_}
 use lib.Dec.{eqb, leb}
 use borrow.Author.Tests.{le-leb, lt-leb, not-true, not-false}
-use Rattle.link.specs.Checks.{from-to, callCheck}
+use Rattle.link.specs.Checks.{pass, from-to, unless, callCheck, asAnswer}
+use Rattle.link.specs.declared.answer.Answer.the-variants.{Data}
 use Rattle.link.proofs.Known.{known-size, unknown-size}
 use borrow.Author.Needs.{needs}
 use Rattle.link.proofs.check.call_check.Statement.{statement}
@@ -27,9 +28,12 @@ nonce-in c =
     let is : c .before .from-to .result ≡ from-to 1 15 (c .before .before .before .before .before .before .args .nonce) = c .before .from-to .ensures in
     sym is ∙ not-false (c .before .from-to .result) (c .if2 .left)
 
-tag-in : (c : tie.Else3) → from-to 4 16 (c .before .before .before .before .before .before .before .before .args .tag) ≡ true
+abbrev start-of : tie.Else3 → tie.Start
+start-of c = c .before .before .before .before .before .before .before .before
+
+tag-in : (c : tie.Else3) → from-to 4 16 (start-of c .args .tag) ≡ true
 tag-in c =
-    let is : c .before .from-to2 .result ≡ from-to 4 16 (c .before .before .before .before .before .before .before .before .args .tag) = c .before .from-to2 .ensures in
+    let is : c .before .from-to2 .result ≡ from-to 4 16 (start-of c .args .tag) = c .before .from-to2 .ensures in
     sym is ∙ not-false (c .before .from-to2 .result) (c .if3 .left)
 
 returns : tie.Need-returns
@@ -60,21 +64,20 @@ returns-4 c =
     let tag-out = sym (c .before .from-to2 .ensures) ∙ not-true (c .before .from-to2 .result) (c .if3 .taken) in
     sym (rw (form-in (told .before .before .before), known told, nonce-in d, tag-out))
 
-returns-5 : tie.Need-returns-5
+-- once these have passed the associated data decides
+through : (c : tie.Else3)
+    → callCheck (start-of c .args .form) (start-of c .args .key) (start-of c .args .nonce) (start-of c .args .tag) (start-of c .args .ad) (pass 0)
+    ≡ unless (leb (start-of c .args .ad) 4096) Data (pass 0)
 unfolding callCheck
-returns-5 c =
-    let d = c .before in
-    let told = d .before .before .before .before in
-    let form = told .before .before .before in
-    sym (rw (form-in form, known told, nonce-in (d .before .before), tag-in d, lt-leb (form .before .args .ad) 4096 (c .if4 .taken)))
+through c =
+    let told = c .before .before .before .before in
+    rw (form-in (told .before .before .before), known told, nonce-in (c .before .before), tag-in c)
+
+returns-5 : tie.Need-returns-5
+returns-5 c = sym (ap asAnswer (through (c .before)) ∙ rw (lt-leb (start-of (c .before) .args .ad) 4096 (c .if4 .taken)))
 
 returns-6 : tie.Need-returns-6
-unfolding callCheck
-returns-6 c =
-    let d = c .before in
-    let told = d .before .before .before .before in
-    let form = told .before .before .before in
-    sym (rw (form-in form, known told, nonce-in (d .before .before), tag-in d, le-leb (form .before .args .ad) 4096 (c .if4 .left)))
+returns-6 c = sym (ap asAnswer (through (c .before)) ∙ rw (le-leb (start-of (c .before) .args .ad) 4096 (c .if4 .left)))
 
 pub call-check-spec : {M : Type 1} → statement M
 call-check-spec =

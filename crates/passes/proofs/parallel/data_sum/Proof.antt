@@ -1,4 +1,5 @@
--- `passes::parallel::data_sum` meets its contract. The loop's invariant: the sum of i blocks, and the first mask doubled i times. Assumes nothing.
+-- `passes::parallel::data_sum` meets its contract. The loop's invariant: the sum of i blocks, and the first Q doubled i times.
+-- Assumes nothing.
 use mathlib.Core.Path.{_≡_, refl, ap, ap₂, _∙_}
 use Prim.Native.Nat.{ℕ, _-_, _≤_}
 use native.Mathlib.Omega.{arith}
