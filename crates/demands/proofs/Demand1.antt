@@ -110,14 +110,14 @@ same-pass : (i n : ℕ) → pass i ≡ pass n → i ≡ n
 same-pass i n e = cc
 
 module _ (P : Type 0) (n : ℕ) (c : Check) (v : Verdict P n c) where
-  pass-is : (i : ℕ) → c ≡ pass i → i ≡ n
+  pub pass-is : (i : ℕ) → c ≡ pass i → i ≡ n
   pass-is i h = go v
     where
       go : Verdict P n c → i ≡ n
       go (passes p e) = same-pass i n (sym h ∙ e)
       go (stops x z e) = absurd (pass-or-stop i x (sym h ∙ e))
 
-  stop-is : (x : Answer) → c ≡ stop x → numberOf x ≡ 0 → ⊥
+  pub stop-is : (x : Answer) → c ≡ stop x → numberOf x ≡ 0 → ⊥
   stop-is x h k = go v
     where
       go : Verdict P n c → ⊥

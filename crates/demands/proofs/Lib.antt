@@ -6,3 +6,4 @@ pub mod Demand3
 pub mod Named
 pub mod Wrong
 pub mod Unchanged
+pub mod Firmware

@@ -1,0 +1,132 @@
+-- The calls from C (document 02, wish 2), whose answer is the number alone: their promises decide, the whole answer follows from the
+-- number, and the wrong programs are ruled out as before. Assumes nothing.
+use mathlib.Core.Path.{_≡_, refl, sym, ap, subst, _∙_}
+use mathlib.Core.List.{List, []}
+use Prim.Native.Nat.{ℕ, _+_, _-_}
+use native.Mathlib.Omega.{arith}
+use lib.ListN.{length}
+use Rattle.mode.specs.Opening.{accepted, refused}
+use Rattle.link.specs.Answers.{numberOf, lengthOf}
+use Rattle.link.specs.Checks.{Check, pass, stop, sealCheck, openCheck}
+use Rattle.link.specs.Promises.{sealing, SealsBy, Seals, OpensBy, Opens}
+use Rattle.link.specs.declared.answer.Answer.{Answer}
+use Rattle.link.specs.declared.answer.Answer.the-variants.{Done, Key, Nonce, Tag, Data, Length, Room, Forged, Form}
+use Rattle.link.proofs.Verdicts.{Verdict, seal-verdict, open-verdict}
+use Rattle.firmware.specs.Numbered.{Numbered}
+use Rattle.demands.specs.Calls.{answerOf}
+use Rattle.demands.proofs.Decided.{seals-decided, opens-decided}
+use Rattle.demands.proofs.Demand1.{pass-is, stop-is, sealing-answers, opening-answers}
+use Rattle.demands.proofs.Named.{key, nonce, one}
+use Rattle.demands.proofs.Wrong.{room, small, s, refuses-sealing, refuses-opening}
+
+-- ---- any promise P, with the number in the answer's place
+module _ (P : Answer → List ℕ → Type 0) where
+  -- where P decides, so does its number
+  pub numbered-decided : ((r r′ : Answer) (a a′ : List ℕ) → P r a → P r′ a′ → (r ≡ r′) × (a ≡ a′))
+      → (n n′ : ℕ) (a a′ : List ℕ) → Numbered P n a → Numbered P n′ a′ → (n ≡ n′) × (a ≡ a′)
+  numbered-decided decided n n′ a a′ (r, is, p) (r′, is′, p′) =
+      let same = decided r r′ a a′ p p′ in
+      (is ∙ ap numberOf (same .0) ∙ sym is′, same .1)
+
+  -- what P rules out by its number and its buffer, its number rules out too: so all of `Wrong`
+  pub ruled-out : (Bad : ℕ → List ℕ → Type 0) → ((r : Answer) (a : List ℕ) → Bad (numberOf r) a → P r a → ⊥)
+      → (n : ℕ) (a : List ℕ) → Bad n a → Numbered P n a → ⊥
+  ruled-out Bad never n a bad (r, is, p) = never r a (subst (λ (i : ℕ). Bad i a) is bad) p
+
+  -- where P is done with k bytes and no other number of them, the number stands for an answer that P allows
+  pub from-number : (k : ℕ) → ((r : Answer) (a : List ℕ) → P r a → numberOf r ≡ 0 → lengthOf r ≡ k)
+      → (n : ℕ) (a : List ℕ) → Numbered P n a → P (answerOf n k) a
+  from-number k long n a (r, is, p) =
+      subst (λ (x : Answer). P x a) (answer-is r (long r a p) ∙ ap (λ (i : ℕ). answerOf i k) (sym is)) p
+    where
+      answer-is : (r : Answer) → (numberOf r ≡ 0 → lengthOf r ≡ k) → r ≡ answerOf (numberOf r) k
+      answer-is (Done n) h = ap Done (h refl)
+      answer-is Key h = refl
+      answer-is Nonce h = refl
+      answer-is Tag h = refl
+      answer-is Data h = refl
+      answer-is Length h = refl
+      answer-is Room h = refl
+      answer-is Forged h = refl
+      answer-is Form h = refl
+
+-- ---- what the checks let through is done with k bytes
+module _ {Q : Type 0} {k : ℕ} (c : Check) (v : Verdict Q k c) where
+  seal-long : (bytes out : List ℕ) (r : Answer) (a : List ℕ) → SealsBy c bytes out r a → numberOf r ≡ 0 → lengthOf r ≡ k
+  seal-long bytes out r a = go c refl
+    where
+      go : (d : Check) → c ≡ d → SealsBy d bytes out r a → numberOf r ≡ 0 → lengthOf r ≡ k
+      go (pass i) e p z = ap lengthOf (p .0) ∙ pass-is Q k c v i e
+      go (stop x) e p z = absurd (stop-is Q k c v x e (sym (ap numberOf (p .0)) ∙ z))
+
+  open-long : (seal : List ℕ → List ℕ) (s out : List ℕ) (r : Answer) (a : List ℕ) → OpensBy c seal s out r a → numberOf r ≡ 0 → lengthOf r ≡ k
+  open-long seal s out r a = go c refl
+    where
+      go : (d : Check) → c ≡ d → OpensBy d seal s out r a → numberOf r ≡ 0 → lengthOf r ≡ k
+      go (pass i) e (accepted m, q, h, w) z = ap lengthOf h ∙ pass-is Q k c v i e
+      go (pass i) e (refused, q, h, w) z = absurd (let seven : numberOf r ≡ 7 = ap numberOf h in omega arith)
+      go (stop x) e p z = absurd (stop-is Q k c v x e (sym (ap numberOf (p .0)) ∙ z))
+
+-- ---- the two calls
+module _ (form : ℕ) (key nonce ad body : List ℕ) (t : ℕ) (out : List ℕ) where
+  pub seal-decided : (n n′ : ℕ) (a a′ : List ℕ)
+      → Numbered (Seals form key nonce ad body t out) n a → Numbered (Seals form key nonce ad body t out) n′ a′ → (n ≡ n′) × (a ≡ a′)
+  seal-decided = numbered-decided (Seals form key nonce ad body t out) (seals-decided form key nonce ad body t out)
+
+  pub open-decided : (n n′ : ℕ) (a a′ : List ℕ)
+      → Numbered (Opens form key nonce ad body t out) n a → Numbered (Opens form key nonce ad body t out) n′ a′ → (n ≡ n′) × (a ≡ a′)
+  open-decided = numbered-decided (Opens form key nonce ad body t out) (opens-decided form key nonce ad body t out)
+
+  pub seal-answer : (n : ℕ) (a : List ℕ) → Numbered (Seals form key nonce ad body t out) n a
+      → Seals form key nonce ad body t out (answerOf n (length body + t)) a
+  unfolding Seals
+  seal-answer =
+      from-number (Seals form key nonce ad body t out) (length body + t)
+      (seal-long (sealCheck form (length key) (length nonce) t (length ad) (length body) (length out))
+      (seal-verdict form (length key) (length nonce) t (length ad) (length body) (length out)) (sealing form key nonce ad t body) out)
+
+  pub open-answer : (n : ℕ) (a : List ℕ) → Numbered (Opens form key nonce ad body t out) n a
+      → Opens form key nonce ad body t out (answerOf n (length body - t)) a
+  unfolding Opens
+  open-answer =
+      from-number (Opens form key nonce ad body t out) (length body - t)
+      (open-long (openCheck form (length key) (length nonce) t (length ad) (length body) (length out))
+      (open-verdict form (length key) (length nonce) t (length ad) (length body) (length out)) (sealing form key nonce ad t) body out)
+
+-- ---- wrong programs that the number brings, at the named inputs of `Wrong` in the parallel form, where any number but 0 is wrong
+not-sealed : (n : ℕ) (a : List ℕ) → (n ≡ 0 → ⊥) → Numbered (Seals 0 key nonce [] (one 0) 16 room) n a → ⊥
+not-sealed = ruled-out (Seals 0 key nonce [] (one 0) 16 room) (λ n a. n ≡ 0 → ⊥) (refuses-sealing 0 (omega arith))
+
+not-opened : (n : ℕ) (a : List ℕ) → (n ≡ 0 → ⊥) → Numbered (Opens 0 key nonce [] (s 0 0) 16 small) n a → ⊥
+not-opened = ruled-out (Opens 0 key nonce [] (s 0 0) 16 small) (λ n a. n ≡ 0 → ⊥) (refuses-opening 0 (omega arith))
+
+-- gives back how many bytes it wrote
+pub seals-length : (a : List ℕ) → Numbered (Seals 0 key nonce [] (one 0) 16 room) 17 a → ⊥
+seals-length a = not-sealed 17 a (λ z. omega arith)
+
+pub opens-length : (a : List ℕ) → Numbered (Opens 0 key nonce [] (s 0 0) 16 small) 1 a → ⊥
+opens-length a = not-opened 1 a (λ z. omega arith)
+
+-- exchanges form and tag length: what the promise allows for form 16 and a tag of 0, it does not for form 0 and a tag of 16
+pub seals-exchanged : (n : ℕ) (a : List ℕ)
+    → Numbered (Seals 16 key nonce [] (one 0) 0 room) n a → Numbered (Seals 0 key nonce [] (one 0) 16 room) n a → ⊥
+seals-exchanged n a (r, is, p) =
+    let eight : numberOf r ≡ 8 = sealing-answers 16 key nonce [] (one 0) 0 room r a p .0 in
+    not-sealed n a (λ z. omega arith)
+
+pub opens-exchanged : (n : ℕ) (a : List ℕ)
+    → Numbered (Opens 16 key nonce [] (s 0 0) 0 small) n a → Numbered (Opens 0 key nonce [] (s 0 0) 16 small) n a → ⊥
+opens-exchanged n a (r, is, p) =
+    let eight : numberOf r ≡ 8 = opening-answers 16 key nonce [] (s 0 0) 0 small r a p .stopped (λ z. omega arith) .0 in
+    not-opened n a (λ z. omega arith)
+
+-- keeps three bits of the number, so that 8 is done
+pub seals-8-as-0 : (a : List ℕ) → Numbered (Seals 2 key nonce [] (one 0) 16 room) 0 a → ⊥
+seals-8-as-0 a (r, is, p) =
+    let eight : numberOf r ≡ 8 = sealing-answers 2 key nonce [] (one 0) 16 room r a p .0 in
+    omega arith
+
+pub opens-8-as-0 : (a : List ℕ) → Numbered (Opens 2 key nonce [] (s 0 0) 16 small) 0 a → ⊥
+opens-8-as-0 a (r, is, p) =
+    let eight : numberOf r ≡ 8 = opening-answers 2 key nonce [] (s 0 0) 16 small r a p .stopped (λ z. omega arith) .0 in
+    omega arith
