@@ -10,6 +10,7 @@ mod call;
 mod data_pass;
 mod failure;
 mod files;
+mod firmware;
 mod form;
 mod generator;
 mod hex;
@@ -68,6 +69,7 @@ fn run(words: &[String]) -> Result<String, Failure> {
         ("aes-rows", []) => Ok(aes_rows::command()),
         ("seams", [requests, answers]) => seams::command(requests, answers),
         ("tour", [requests, answers]) => tour::command(requests, answers),
+        ("firmware", [form, requests, answers]) => firmware::command(form, requests, answers),
         ("requests", _) => requests::command(rest),
         ("known", _) => known::command(rest),
         _ => Err(usage()),
@@ -79,6 +81,7 @@ fn usage() -> Failure {
                 \u{20}      second aes-rows\n\
                 \u{20}      second seams FILE_REQUESTS FILE_ANSWERS\n\
                 \u{20}      second tour FILE_REQUESTS FILE_ANSWERS\n\
+                \u{20}      second firmware FORM FILE_REQUESTS FILE_ANSWERS\n\
                 \u{20}      second requests SEED COUNT FILE_REQUESTS FILE_ANSWERS\n\
                 \u{20}      second known FILE...";
     bad_input(text.to_string())

@@ -19,6 +19,21 @@ pub const USUAL: Lengths = Lengths {
     t: 16,
 };
 
+/// The messages that 01 has run and compared.
+pub const MESSAGES: [usize; 11] = [
+    0,
+    1,
+    15,
+    16,
+    17,
+    31,
+    32,
+    33,
+    48,
+    MESSAGE_MAX - 1,
+    MESSAGE_MAX,
+];
+
 pub fn seam_lengths() -> Vec<Lengths> {
     let mut list = Vec::new();
     for key in [16, 24, 32] {

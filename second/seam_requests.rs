@@ -32,7 +32,7 @@ pub fn seam_requests() -> Vec<Request> {
 }
 
 /// A sealing with exact room.
-fn sealing(draw: &mut Generator, form: usize, lengths: Lengths) -> Request {
+pub fn sealing(draw: &mut Generator, form: usize, lengths: Lengths) -> Request {
     Request {
         kind: Kind::Seal,
         form,
@@ -70,7 +70,7 @@ fn around(draw: &mut Generator, form: usize, lengths: Lengths) -> Vec<Request> {
 }
 
 /// An opening of bytes that nobody sealed, with exact room.
-fn other_bytes(draw: &mut Generator, sealing: &Request) -> Request {
+pub fn other_bytes(draw: &mut Generator, sealing: &Request) -> Request {
     Request {
         kind: Kind::Open,
         body: draw.bytes(sealing.body.len() + sealing.t),
@@ -135,7 +135,7 @@ fn shortest_sealed(draw: &mut Generator, form: usize) -> Vec<Request> {
 }
 
 /// Every fault alone and every two together: the one checked first is the answer.
-fn two_faults(draw: &mut Generator, form: usize, kind: Kind) -> Vec<Request> {
+pub fn two_faults(draw: &mut Generator, form: usize, kind: Kind) -> Vec<Request> {
     let mut list = Vec::new();
     for (place, &first) in FAULTS.iter().enumerate() {
         for &second in &FAULTS[place..] {

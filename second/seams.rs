@@ -8,9 +8,8 @@ use crate::files;
 use crate::hex;
 use crate::request::{Kind, Request};
 use crate::rules;
-use crate::seam_lengths::{longest_nonces, Lengths, USUAL};
+use crate::seam_lengths::{longest_nonces, Lengths, MESSAGES, USUAL};
 
-const MESSAGES: [usize; 11] = [0, 1, 15, 16, 17, 31, 32, 33, 48, 16_383, 16_384];
 const MESSAGES_WITHOUT_DATA: [usize; 5] = [0, 1, 16, 17, 33];
 const DATA: [usize; 8] = [1, 15, 16, 17, 31, 32, 33, DATA_MAX];
 

@@ -4,6 +4,7 @@ use crate::aes::{substitute, Aes};
 use crate::bits::n2s;
 use crate::block::{double, pad, times_3_squared, times_7, Block, BLOCK_BYTES, ZERO};
 use crate::call::{open, seal};
+use crate::firmware;
 use crate::form::Form;
 use crate::hex;
 use crate::otr::{format, otr_d, otr_e};
@@ -214,4 +215,19 @@ fn empty_message_is_one_short_block() {
     let (c, tag) = otr_e(Form::Parallel, &stand_in, 16, &rules::nonce(12), &[], &[]);
     assert!(c.is_empty());
     assert_eq!(tag, stand_in(&input));
+}
+
+#[test]
+fn the_host_program_gets_every_seam_and_every_refusal() {
+    for form in [0, 1] {
+        let mut answers = [0; 9];
+        for request in firmware::requests(form) {
+            answers[usize::from(request.call().0.number)] += 1;
+        }
+        let keys_nonces_tags = 3 * 3 * 3;
+        assert_eq!(answers[0], keys_nonces_tags * 6 * 11);
+        for refusal in [1, 2, 3, 4, 5, 6, 8] {
+            assert!(answers[refusal] > 0, "{refusal}");
+        }
+    }
 }
