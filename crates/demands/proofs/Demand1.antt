@@ -16,7 +16,8 @@ use Rattle.link.specs.Answers.{numberOf, lengthOf}
 use Rattle.link.specs.Checks.{Check, pass, stop, from-to, unless, callCheck, sealCheck, openCheck, asAnswer}
 use Rattle.link.specs.Promises.{sealing, SealsBy, Seals, OpensBy, Opens}
 use Rattle.link.specs.declared.answer.Answer.{Answer}
-use Rattle.link.specs.declared.answer.Answer.the-variants.{Done, Key, Nonce, Tag, Data, Length, Room, Forged, Form}
+use Rattle.link.specs.declared.answer.Answer.the-variants.{Key, Nonce, Tag, Data, Length, Room, Form}
+use Rattle.link.proofs.Answers.{Answered, done, refusal, answered}
 use Rattle.link.proofs.Verdicts.{Verdict, passes, stops, Called, open-verdict}
 use Rattle.demands.specs.Calls.{firstFailing, sealChecks, openChecks}
 use Rattle.demands.proofs.Decided.{pass-or-stop}
@@ -46,15 +47,11 @@ not-first k ((n, false) ∷ checks) h e = h .0 e
 
 -- a refusal has length 0
 refusal-length : (r : Answer) → (numberOf r ≡ 0 → ⊥) → lengthOf r ≡ 0
-refusal-length (Done n) z = absurd (z refl)
-refusal-length Key z = refl
-refusal-length Nonce z = refl
-refusal-length Tag z = refl
-refusal-length Data z = refl
-refusal-length Length z = refl
-refusal-length Room z = refl
-refusal-length Forged z = refl
-refusal-length Form z = refl
+refusal-length r z = go (answered r)
+  where
+    go : Answered r → lengthOf r ≡ 0
+    go (done n e) = absurd (z (ap numberOf e))
+    go (refusal most none stands) = none
 
 -- ---- sealing
 by-seal : (c : Check) (bytes out : List ℕ) (r : Answer) (after : List ℕ) → SealsBy c bytes out r after
@@ -110,14 +107,14 @@ same-pass : (i n : ℕ) → pass i ≡ pass n → i ≡ n
 same-pass i n e = cc
 
 module _ (P : Type 0) (n : ℕ) (c : Check) (v : Verdict P n c) where
-  pub pass-is : (i : ℕ) → c ≡ pass i → i ≡ n
+  pass-is : (i : ℕ) → c ≡ pass i → i ≡ n
   pass-is i h = go v
     where
       go : Verdict P n c → i ≡ n
       go (passes p e) = same-pass i n (sym h ∙ e)
       go (stops x z e) = absurd (pass-or-stop i x (sym h ∙ e))
 
-  pub stop-is : (x : Answer) → c ≡ stop x → numberOf x ≡ 0 → ⊥
+  stop-is : (x : Answer) → c ≡ stop x → numberOf x ≡ 0 → ⊥
   stop-is x h k = go v
     where
       go : Verdict P n c → ⊥

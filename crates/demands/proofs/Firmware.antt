@@ -6,16 +6,16 @@ use Prim.Native.Nat.{ℕ, _+_, _-_}
 use native.Mathlib.Omega.{arith}
 use lib.ListN.{length}
 use Rattle.mode.specs.Opening.{accepted, refused}
-use Rattle.link.specs.Answers.{numberOf, lengthOf}
-use Rattle.link.specs.Checks.{Check, pass, stop, sealCheck, openCheck}
+use Rattle.link.specs.Answers.{numberOf, lengthOf, answerOf}
+use Rattle.link.specs.Checks.{Check, pass, sealCheck, openCheck}
 use Rattle.link.specs.Promises.{sealing, SealsBy, Seals, OpensBy, Opens}
 use Rattle.link.specs.declared.answer.Answer.{Answer}
-use Rattle.link.specs.declared.answer.Answer.the-variants.{Done, Key, Nonce, Tag, Data, Length, Room, Forged, Form}
-use Rattle.link.proofs.Verdicts.{Verdict, seal-verdict, open-verdict}
+use Rattle.link.specs.declared.answer.Answer.the-variants.{Done}
+use Rattle.link.proofs.Answers.{Answered, done, refusal, answered}
+use Rattle.link.proofs.Verdicts.{Verdict, passes, stops, seal-verdict, open-verdict}
 use Rattle.firmware.specs.Numbered.{Numbered}
-use Rattle.demands.specs.Calls.{answerOf}
 use Rattle.demands.proofs.Decided.{seals-decided, opens-decided}
-use Rattle.demands.proofs.Demand1.{pass-is, stop-is, sealing-answers, opening-answers}
+use Rattle.demands.proofs.Demand1.{sealing-answers, opening-answers}
 use Rattle.demands.proofs.Named.{key, nonce, one}
 use Rattle.demands.proofs.Wrong.{room, small, s, refuses-sealing, refuses-opening}
 
@@ -37,35 +37,31 @@ module _ (P : Answer → List ℕ → Type 0) where
   pub from-number : (k : ℕ) → ((r : Answer) (a : List ℕ) → P r a → numberOf r ≡ 0 → lengthOf r ≡ k)
       → (n : ℕ) (a : List ℕ) → Numbered P n a → P (answerOf n k) a
   from-number k long n a (r, is, p) =
-      subst (λ (x : Answer). P x a) (answer-is r (long r a p) ∙ ap (λ (i : ℕ). answerOf i k) (sym is)) p
+      subst (λ (x : Answer). P x a) (go (answered r) ∙ ap (λ (i : ℕ). answerOf i k) (sym is)) p
     where
-      answer-is : (r : Answer) → (numberOf r ≡ 0 → lengthOf r ≡ k) → r ≡ answerOf (numberOf r) k
-      answer-is (Done n) h = ap Done (h refl)
-      answer-is Key h = refl
-      answer-is Nonce h = refl
-      answer-is Tag h = refl
-      answer-is Data h = refl
-      answer-is Length h = refl
-      answer-is Room h = refl
-      answer-is Forged h = refl
-      answer-is Form h = refl
+      go : Answered r → r ≡ answerOf (numberOf r) k
+      go (done i e) = e ∙ ap Done (sym (ap lengthOf e) ∙ long r a p (ap numberOf e)) ∙ ap (λ (x : Answer). answerOf (numberOf x) k) (sym e)
+      go (refusal most none stands) = stands k
 
 -- ---- what the checks let through is done with k bytes
-module _ {Q : Type 0} {k : ℕ} (c : Check) (v : Verdict Q k c) where
-  seal-long : (bytes out : List ℕ) (r : Answer) (a : List ℕ) → SealsBy c bytes out r a → numberOf r ≡ 0 → lengthOf r ≡ k
-  seal-long bytes out r a = go c refl
+module _ {Q : Type 0} {k : ℕ} (c : Check) (v : Verdict Q k c) (r : Answer) (a : List ℕ) where
+  seal-long : (bytes out : List ℕ) → SealsBy c bytes out r a → numberOf r ≡ 0 → lengthOf r ≡ k
+  seal-long bytes out p z = go v
     where
-      go : (d : Check) → c ≡ d → SealsBy d bytes out r a → numberOf r ≡ 0 → lengthOf r ≡ k
-      go (pass i) e p z = ap lengthOf (p .0) ∙ pass-is Q k c v i e
-      go (stop x) e p z = absurd (stop-is Q k c v x e (sym (ap numberOf (p .0)) ∙ z))
+      go : Verdict Q k c → lengthOf r ≡ k
+      go (passes q e) = ap lengthOf (subst (λ (d : Check). SealsBy d bytes out r a) e p .0)
+      go (stops x y e) = absurd (y (sym (ap numberOf (subst (λ (d : Check). SealsBy d bytes out r a) e p .0)) ∙ z))
 
-  open-long : (seal : List ℕ → List ℕ) (s out : List ℕ) (r : Answer) (a : List ℕ) → OpensBy c seal s out r a → numberOf r ≡ 0 → lengthOf r ≡ k
-  open-long seal s out r a = go c refl
+  open-long : (seal : List ℕ → List ℕ) (s out : List ℕ) → OpensBy c seal s out r a → numberOf r ≡ 0 → lengthOf r ≡ k
+  open-long seal s out p z = go v
     where
-      go : (d : Check) → c ≡ d → OpensBy d seal s out r a → numberOf r ≡ 0 → lengthOf r ≡ k
-      go (pass i) e (accepted m, q, h, w) z = ap lengthOf h ∙ pass-is Q k c v i e
-      go (pass i) e (refused, q, h, w) z = absurd (let seven : numberOf r ≡ 7 = ap numberOf h in omega arith)
-      go (stop x) e p z = absurd (stop-is Q k c v x e (sym (ap numberOf (p .0)) ∙ z))
+      opened : OpensBy (pass k) seal s out r a → lengthOf r ≡ k
+      opened (accepted m, q, h, w) = ap lengthOf h
+      opened (refused, q, h, w) = absurd (let seven : numberOf r ≡ 7 = ap numberOf h in omega arith)
+
+      go : Verdict Q k c → lengthOf r ≡ k
+      go (passes q e) = opened (subst (λ (d : Check). OpensBy d seal s out r a) e p)
+      go (stops x y e) = absurd (y (sym (ap numberOf (subst (λ (d : Check). OpensBy d seal s out r a) e p .0)) ∙ z))
 
 -- ---- the two calls
 module _ (form : ℕ) (key nonce ad body : List ℕ) (t : ℕ) (out : List ℕ) where
@@ -82,16 +78,16 @@ module _ (form : ℕ) (key nonce ad body : List ℕ) (t : ℕ) (out : List ℕ) 
   unfolding Seals
   seal-answer =
       from-number (Seals form key nonce ad body t out) (length body + t)
-      (seal-long (sealCheck form (length key) (length nonce) t (length ad) (length body) (length out))
-      (seal-verdict form (length key) (length nonce) t (length ad) (length body) (length out)) (sealing form key nonce ad t body) out)
+      (λ r a. seal-long (sealCheck form (length key) (length nonce) t (length ad) (length body) (length out))
+      (seal-verdict form (length key) (length nonce) t (length ad) (length body) (length out)) r a (sealing form key nonce ad t body) out)
 
   pub open-answer : (n : ℕ) (a : List ℕ) → Numbered (Opens form key nonce ad body t out) n a
       → Opens form key nonce ad body t out (answerOf n (length body - t)) a
   unfolding Opens
   open-answer =
       from-number (Opens form key nonce ad body t out) (length body - t)
-      (open-long (openCheck form (length key) (length nonce) t (length ad) (length body) (length out))
-      (open-verdict form (length key) (length nonce) t (length ad) (length body) (length out)) (sealing form key nonce ad t) body out)
+      (λ r a. open-long (openCheck form (length key) (length nonce) t (length ad) (length body) (length out))
+      (open-verdict form (length key) (length nonce) t (length ad) (length body) (length out)) r a (sealing form key nonce ad t) body out)
 
 -- ---- wrong programs that the number brings, at the named inputs of `Wrong` in the parallel form, where any number but 0 is wrong
 not-sealed : (n : ℕ) (a : List ℕ) → (n ≡ 0 → ⊥) → Numbered (Seals 0 key nonce [] (one 0) 16 room) n a → ⊥

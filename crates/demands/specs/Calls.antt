@@ -5,10 +5,8 @@ use mathlib.Core.Logic.{_⊎_}
 use mathlib.Core.List.{List, [], _∷_}
 use Prim.Native.Nat.{ℕ, _+_, _-_, _≤_}
 use lib.Dec.{eqb, leb}
-use lib.ListN.{length, getD}
+use lib.ListN.{length}
 use Rattle.link.specs.Checks.{from-to}
-use Rattle.link.specs.declared.answer.Answer.{Answer}
-use Rattle.link.specs.declared.answer.Answer.the-variants.{Done, Key, Nonce, Tag, Data, Length, Room, Forged, Form}
 
 -- checks in their order, each with its number and whether it passes: the number of the first that fails, and 0 where none does
 abbrev pub firstFailing : List (ℕ × Bool) → ℕ
@@ -43,7 +41,3 @@ pub record Limits (form key nonce t ad : ℕ) : Type 0 where
   pub nonces : (1 ≤ nonce) × (nonce ≤ 15)
   pub tags : (4 ≤ t) × (t ≤ 16)
   pub most : ad ≤ 4096
-
--- the answer that a number stands for, where a call that is done writes k bytes (document 02, wish 2); no number is above 8
-abbrev pub answerOf : ℕ → ℕ → Answer
-answerOf n k = getD (Done k ∷ Key ∷ Nonce ∷ Tag ∷ Data ∷ Length ∷ Room ∷ Forged ∷ Form ∷ []) n Form

@@ -1,5 +1,7 @@
 -- Document 01, 'What comes back', and document 02, wish 1: the number and the length of each answer.
+use mathlib.Core.List.{[], _∷_}
 use Prim.Native.Nat.{ℕ}
+use lib.ListN.{getD}
 use Rattle.link.specs.declared.answer.Answer.{Answer}
 use Rattle.link.specs.declared.answer.Answer.the-variants.{Done, Key, Nonce, Tag, Data, Length, Room, Forged, Form}
 
@@ -24,3 +26,7 @@ lengthOf Length = 0
 lengthOf Room = 0
 lengthOf Forged = 0
 lengthOf Form = 0
+
+-- the answer that a number from 0 to 8 stands for, where a call that is done has length n
+abbrev pub answerOf : ℕ → ℕ → Answer
+answerOf i n = getD (Done n ∷ Key ∷ Nonce ∷ Tag ∷ Data ∷ Length ∷ Room ∷ Forged ∷ Form ∷ []) i Form
