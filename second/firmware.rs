@@ -9,6 +9,9 @@ use crate::seam_lengths::{Lengths, MESSAGES, USUAL};
 use crate::seam_requests::{other_bytes, sealing, two_faults};
 
 const SEED: u64 = u64::MAX - 1;
+const KEYS: [usize; 3] = [16, 24, 32];
+const NONCES: [usize; 3] = [1, 12, 15];
+const TAGS: [usize; 3] = [4, 15, 16];
 const DATA: [usize; 6] = [0, 1, 15, 16, 17, DATA_MAX];
 const BEYOND_32_BITS: usize = 1 << 32;
 
@@ -20,7 +23,11 @@ pub fn command(form: &str, file_requests: &str, file_answers: &str) -> Result<St
     };
     let requests = requests(form);
     files::write_requests(&requests, file_requests, file_answers)?;
-    Ok(format!("requests {}\n", requests.len()))
+    Ok(format!(
+        "form {form}: {} requests. Keys of {KEYS:?}, nonces of {NONCES:?}, tags of {TAGS:?}, \
+         data of {DATA:?}, messages of {MESSAGES:?}, each with each; and refusals\n",
+        requests.len()
+    ))
 }
 
 pub fn requests(form: usize) -> Vec<Request> {
@@ -38,9 +45,9 @@ pub fn requests(form: usize) -> Vec<Request> {
 /// Every seam message of 01 with every seam data, key, nonce and tag.
 fn every_seam() -> Vec<Lengths> {
     let mut list = vec![USUAL];
-    list = vary(&list, &[16, 24, 32], |lengths, key| lengths.key = key);
-    list = vary(&list, &[1, 12, 15], |lengths, nonce| lengths.nonce = nonce);
-    list = vary(&list, &[4, 15, 16], |lengths, t| lengths.t = t);
+    list = vary(&list, &KEYS, |lengths, key| lengths.key = key);
+    list = vary(&list, &NONCES, |lengths, nonce| lengths.nonce = nonce);
+    list = vary(&list, &TAGS, |lengths, t| lengths.t = t);
     list = vary(&list, &DATA, |lengths, data| lengths.data = data);
     vary(&list, &MESSAGES, |lengths, message| {
         lengths.message = message;
