@@ -99,7 +99,9 @@ enum shaftladder_form { SHAFTLADDER_PARALLEL = 0, SHAFTLADDER_SERIAL = 1 };
  * - A key is kept to one form and one tag length.
  * - Whether a list comes twice, or in another order than it was sealed in, is the caller's
  *   to see: no call can tell.
- *
+ */
+
+/*
  * WHO OWNS WHAT. Every buffer is the caller's. A call keeps no pointer, allocates nothing
  * and changes nothing but the output and its own stack. There is no state, so calls may run
  * side by side. Of the C library they use memcpy and memset. The stack is not cleared:

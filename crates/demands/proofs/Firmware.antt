@@ -28,7 +28,7 @@ module _ (P : Answer → List ℕ → Type 0) where
       let same = decided r r′ a a′ p p′ in
       (is ∙ ap numberOf (same .0) ∙ sym is′, same .1)
 
-  -- what P rules out by its number and its buffer, its number rules out too: so all of `Wrong`
+  -- what P rules out by its number and its buffer, its number rules out too
   pub ruled-out : (Bad : ℕ → List ℕ → Type 0) → ((r : Answer) (a : List ℕ) → Bad (numberOf r) a → P r a → ⊥)
       → (n : ℕ) (a : List ℕ) → Bad n a → Numbered P n a → ⊥
   ruled-out Bad never n a bad (r, is, p) = never r a (subst (λ (i : ℕ). Bad i a) is bad) p
