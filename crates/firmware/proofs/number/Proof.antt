@@ -13,10 +13,13 @@ at-most-8 : (r : Answer) → Answered r → numberOf r ≤ 8
 at-most-8 r (done n e) = let z : numberOf r ≡ 0 = ap numberOf e in omega arith
 at-most-8 r (refusal most none stands) = most
 
+number-is : (c : tie.After-number) → c .number .result ≡ numberOf (c .before .args .answer)
+number-is c = c .number .ensures
+
 cast-result : tie.Need-cast-result
 cast-result c =
-    let most = at-most-8 (c .before .args .answer) (answered (c .before .args .answer)) in
-    record { fits = omega (arith, c .number .ensures, most) }
+    let r = c .before .args .answer in
+    record { fits = omega (arith, number-is c, at-most-8 r (answered r)) }
 
 pub number-spec : {M : Type 1} → statement M
-number-spec = tie.close (tie.spec (λ c κs. search needs) cast-result (λ c. search needs))
+number-spec = tie.close (tie.spec (λ c κs. search needs) cast-result number-is)
