@@ -74,14 +74,14 @@ enum shaftladder_form { SHAFTLADDER_PARALLEL = 0, SHAFTLADDER_SERIAL = 1 };
 
 /*
  * STACK that a call needs at most, in bytes, its arguments included. Measured and not
- * proved: calls at the seam lengths ran on a painted stack, and of the paint 2,093 bytes at
- * most were gone (host/stack.c).
+ * proved: calls at the seam lengths, in both forms and with every key length, ran on a
+ * painted stack, and of the paint 2,093 bytes at most were gone (host/stack.c).
  */
 #define SHAFTLADDER_STACK 2560
 
 /*
- * DUTIES OF THE CALLER. No call can check them, and where one is not kept nothing is
- * promised.
+ * DUTIES OF THE CALLER. No call can check them. Where one of these is not kept, nothing is
+ * promised of the call:
  *
  * - The output overlaps no input: not the key, the nonce, the associated data, the message
  *   or the sealed bytes. So there is no sealing or opening in place. Inputs may overlap
@@ -93,6 +93,9 @@ enum shaftladder_form { SHAFTLADDER_PARALLEL = 0, SHAFTLADDER_SERIAL = 1 };
  * - A pointer beside a length of 0 may be any pointer, null too: nothing is read or written
  *   through it. Beside any other length it is not null.
  * - SHAFTLADDER_STACK bytes of stack are free.
+ *
+ * Where one of these is not kept, the bytes are as promised, and no longer safe:
+ *
  * - A nonce is never used twice under a key. Two messages sealed under one nonce give away
  *   what they have in common, and help others to forge. The library takes the nonce that it
  *   is handed, and keeps no record.
