@@ -45,8 +45,8 @@ static void compare_damaged(const struct call *opening, enum part part, size_t f
 }
 
 /*
- * What the sealing gave, opened: the message comes back, and nothing once a bit of any part
- * is changed.
+ * What the sealing gave, opened: the message comes back, and nothing once a bit of any part is
+ * changed. The sealing was compared, so that what it gave is what it had to give.
  */
 static void compare_opening(const struct call *sealing)
 {
