@@ -75,11 +75,11 @@ enum shaftladder_form { SHAFTLADDER_PARALLEL = 0, SHAFTLADDER_SERIAL = 1 };
 /*
  * STACK that a call needs at most, in bytes, its arguments included. Measured and not
  * proved: calls at the seam lengths, in both forms and with every key length, ran on a
- * painted stack, and of the paint 2,093 bytes at most were gone (host/stack.c). glibc's
+ * painted stack, and of the paint 6,032 bytes at most were gone (host/stack.c). glibc's
  * memcpy and memset are in it, bound beforehand: a dynamic linker that binds them at their
  * first call needs more.
  */
-#define SHAFTLADDER_STACK 2560
+#define SHAFTLADDER_STACK 6656
 
 /*
  * DUTIES OF THE CALLER. No call can check them. Where one of these is not kept, nothing is

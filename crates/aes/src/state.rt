@@ -3,8 +3,9 @@ ghost use mathlib.Core.Path.{_≡_};
 ghost use Prim.Native.Nat.{_+_, _*_, _%_, _≤_, _<_};
 ghost use lib.Bits.{bitXor};
 ghost use lib.ListN.{getD};
+ghost use Rattle.words.specs.Word.{little};
 ghost use Rattle.field.specs.Substitution.{sbox};
-ghost use Rattle.aes.specs.State.{input as inputOf, output as outputOf, column};
+ghost use Rattle.aes.specs.State.{input as inputOf, output as outputOf, column, word};
 ghost use Rattle.aes.specs.Expansion.{subWord};
 ghost use Rattle.aes.specs.Cipher.{subBytes, shiftRows, mixed as mixedOf, mixColumns, addRoundKey};
 
@@ -118,18 +119,22 @@ pub fn mix_columns(s: [[u8; 4]; 4]) -> [[u8; 4]; 4]
     ]
 }
 
+// Word i of the expanded key.
+pub fn key_word(w: &[u8; 240], i: usize) -> u32
+    requires { ⌜ i < 60 ⌝ }
+    ensures { λ r. ⌜ little 4 r ≡ word (now (w .entry)) i ⌝ }
+{
+    let j = 4 * i;
+    words::pack(w[j + 0], w[j + 1], w[j + 2], w[j + 3])
+}
+
 // A column and word i of the expanded key.
 fn add_word(w: &[u8; 240], i: usize, a: [u8; 4]) -> [u8; 4]
     requires { ⌜ i < 60 ⌝ }
     ensures { λ s. ⌜ s ≡ column (λ r. bitXor (getD a r 0) (getD (now (w .entry)) (4 * i + r) 0)) ⌝ }
 {
-    let j = 4 * i;
-    [
-        a[0] ^ w[j + 0],
-        a[1] ^ w[j + 1],
-        a[2] ^ w[j + 2],
-        a[3] ^ w[j + 3],
-    ]
+    let own = words::pack(a[0], a[1], a[2], a[3]);
+    words::unpack(own ^ key_word(w, i))
 }
 
 pub fn add_round_key(w: &[u8; 240], round: usize, s: [[u8; 4]; 4]) -> [[u8; 4]; 4]

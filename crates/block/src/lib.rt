@@ -6,6 +6,13 @@ ghost use Rattle.lists.specs.Xor.{xor as xorOf};
 ghost use Rattle.lists.specs.Zeros.{zeros as zerosOf};
 ghost use Rattle.block.specs.Block.{filled, pad as padOf, shift as shiftOf, double as doubleOf, triple as tripleOf, tripleTwice, seven as sevenOf};
 
+mod wide;
+
+pub use wide::double_words;
+pub use wide::from_words;
+pub use wide::to_words;
+pub use wide::xor_words;
+
 pub fn zeros() -> [u8; 16]
     ensures { λ r. ⌜ r ≡ zerosOf 16 ⌝ }
 {

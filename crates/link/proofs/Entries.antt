@@ -2,7 +2,7 @@
 use mathlib.Core.Path.{_≡_, refl, sym, ap, fun-ext, _∙_}
 use mathlib.Core.Bool.{true, false, _||_}
 use mathlib.Core.List.{List}
-use Prim.Native.Nat.{ℕ, _-_, _≤_, _<_}
+use Prim.Native.Nat.{ℕ, _-_, _≤_}
 use native.Mathlib.Omega.{arith}
 use lib.Dec.{eqb}
 use lib.ListN.{length}
@@ -46,7 +46,7 @@ keyed key h =
 
 -- the round count that a call takes from the record, and the cipher under it
 module _ (key : List ℕ) (u : Usable key) (k : RoundKeys) (is : k ≡ expanded key) where
-  pub rounds-in : (0 < k .rounds) × (k .rounds ≤ 14)
+  pub rounds-in : (10 ≤ k .rounds) × (k .rounds ≤ 14)
   rounds-in =
       let r : k .rounds ≡ keyRounds key = ap (λ (x : RoundKeys). x .rounds) is ∙ u .rounds in
       (omega (arith, u .least), omega (arith, u .most))

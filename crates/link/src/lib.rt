@@ -38,7 +38,8 @@ pub fn seal(
     let keys = aes::expand(&table, key);
     let nr = keys.rounds;
     let w = keys.words;
-    passes::seal(form, &table, &w, nr, nonce, ad, message, tag, out);
+    let tables = tables::joined();
+    passes::seal(form, &tables, &w, nr, nonce, ad, message, tag, out);
     answer
 }
 
@@ -69,7 +70,8 @@ pub fn open(
     let keys = aes::expand(&table, key);
     let nr = keys.rounds;
     let w = keys.words;
-    if passes::open(form, &table, &w, nr, nonce, ad, sealed, tag, out) {
+    let tables = tables::joined();
+    if passes::open(form, &tables, &w, nr, nonce, ad, sealed, tag, out) {
         return answer;
     }
     Answer::Forged

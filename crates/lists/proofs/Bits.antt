@@ -3,7 +3,7 @@ use mathlib.Core.Path.{_≡_, refl, sym, ap, ap₂, _∙_}
 use Prim.Native.Nat.{ℕ, zero, suc, _+_, _*_, _/_, _%_, _<_}
 use native.Mathlib.Omega.{arith}
 use lib.Arith.{bin-ind}
-use lib.Bits.{bitOr, bitXor, differ, and-le-l, and-le-r, or-add-and, xor-step, xor-self, xor-zero-l, xor-zero-r}
+use lib.Bits.{bitOr, bitXor, differ, and-le-l, and-le-r, or-add-and, xor-step, xor-self, xor-comm, xor-zero-l, xor-zero-r}
 
 -- on single digits
 differ-assoc : (x y z : ℕ) → x < 2 → y < 2 → z < 2 → differ (differ x y) z ≡ differ x (differ y z)
@@ -46,6 +46,10 @@ xor-assoc =
 
 pub xor-cancel : (a b : ℕ) → bitXor (bitXor a b) b ≡ a
 xor-cancel a b = xor-assoc a b b ∙ ap (bitXor a) (xor-self b) ∙ xor-zero-r a
+
+-- the second and the third, exchanged
+pub xor-swap : (a b c : ℕ) → bitXor (bitXor a b) c ≡ bitXor (bitXor a c) b
+xor-swap a b c = xor-assoc a b c ∙ ap (bitXor a) (xor-comm b c) ∙ sym (xor-assoc a c b)
 
 -- ---- where the results are 0
 pub xor-zero : (a b : ℕ) → bitXor a b ≡ 0 → a ≡ b

@@ -1,5 +1,5 @@
 -- One turn of each loop, over any cipher and any masks. Assumes nothing.
-use mathlib.Core.Path.{_≡_, sym, ap, _∙_}
+use mathlib.Core.Path.{_≡_, sym, ap, ap₂, _∙_}
 use mathlib.Core.List.{List}
 use Prim.Native.Nat.{ℕ, _+_, _*_, _≤_}
 use native.Mathlib.Numerals.{add-one}
@@ -8,20 +8,34 @@ use lib.ListN.{length}
 use Rattle.lists.specs.Lay.{lay}
 use Rattle.lists.proofs.Laid.{lay-lay}
 use Rattle.block.specs.Block.{double}
-use Rattle.mode.specs.Masks.{Masks, IsCipher, AreMasks, doubles}
-use Rattle.mode.specs.Message.{pairs}
+use Rattle.mode.specs.Masks.{Masks, IsCipher, AreMasks, doubles, doubled}
+use Rattle.mode.specs.Message.{block, pair, pairs}
 use Rattle.mode.proofs.Pairs.{here, pairs-step, length-pairs, length-here}
+use Rattle.mode.proofs.Third.{doubled-masks}
 
 pub doubles-step : (i : ℕ) (x : List ℕ) → double (doubles i x) ≡ doubles (i + 1) x
 unfolding doubles
 doubles-step i x = sym (ap (λ (j : ℕ). doubles j x) (add-one i))
 
-pub lay-pair : (E : List ℕ → List ℕ) (e : IsCipher E) (k : Masks) (s : AreMasks k) (i : ℕ) (m out : List ℕ)
-    → 32 * i + 32 ≤ length m → 32 * i + 32 ≤ length out
-    → lay (32 * i) (here E e k s i m) (lay 0 (pairs E k i m) out) ≡ lay 0 (pairs E k (i + 1) m) out
-lay-pair E e k s i m out h l =
-    let long : length (pairs E k i m) ≡ 32 * i = length-pairs E e k s i m (omega arith) in
-    let place : 32 * i ≡ 0 + length (pairs E k i m) = omega arith in
-    ap (λ (j : ℕ). lay j (here E e k s i m) (lay 0 (pairs E k i m) out)) place
-    ∙ lay-lay 0 (pairs E k i m) (here E e k s i m) out (omega (arith, length-here E e k s i m h))
-    ∙ ap (λ (x : List ℕ). lay 0 x out) (pairs-step E e k s i m)
+-- ---- the pairs of m into out, from the masks l and r on
+module _ (E : List ℕ → List ℕ) (e : IsCipher E) (l r : List ℕ) (hl : length l ≡ 16) (hr : length r ≡ 16) (m out : List ℕ) where
+  k : Masks
+  k = doubled l r
+
+  s : AreMasks k
+  unfolding k
+  s = doubled-masks l r hl hr
+
+  -- one pair more, with the masks L and R that it has, where it stands at places p and q
+  pub laid-more : (i p q : ℕ) (L R now : List ℕ) → p ≡ 32 * i → q ≡ 32 * i + 16 → 32 * i + 32 ≤ length m → 32 * i + 32 ≤ length out
+      → L ≡ doubles i l → R ≡ doubles i r → now ≡ lay 0 (pairs E (doubled l r) i m) out
+      → lay p (pair E L R (block m p) (block m q)) now ≡ lay 0 (pairs E (doubled l r) (i + 1) m) out
+  unfolding k
+  laid-more i p q L R now hp hq hm ho hL hR is =
+      let long : length (pairs E k i m) ≡ 32 * i = length-pairs E e k s i m (omega arith) in
+      let place : 32 * i ≡ 0 + length (pairs E k i m) = omega arith in
+      ap₂ (λ (a b : ℕ). lay a (pair E L R (block m a) (block m b)) now) hp hq
+      ∙ ap₂ (λ (a b : List ℕ). lay (32 * i) (pair E a b (block m (32 * i)) (block m (32 * i + 16))) now) hL hR
+      ∙ ap₂ (λ (a : ℕ) (b : List ℕ). lay a (here E e k s i m) b) place is
+      ∙ lay-lay 0 (pairs E k i m) (here E e k s i m) out (omega (arith, length-here E e k s i m hm))
+      ∙ ap (λ (x : List ℕ). lay 0 x out) (pairs-step E e k s i m)

@@ -7,7 +7,7 @@ ghost use lib.Dec.{ltb};
 ghost use lib.ListN.{length, take, drop};
 ghost use Rattle.lists.specs.Lay.{lay};
 ghost use Rattle.lists.specs.Xor.{xor};
-ghost use Rattle.field.specs.Substitution.{sbox};
+ghost use Rattle.tables.specs.Joined.{joined};
 ghost use Rattle.aes.specs.Cipher.{cipher};
 ghost use Rattle.mode.specs.Masks.{third};
 ghost use Rattle.mode.specs.Message.{ending, endSum, lastLength, base, final};
@@ -17,7 +17,7 @@ use crate::pairs::put_two;
 
 // Two blocks of the message m from place at on.
 fn seal_two(
-    table: &[u8; 256],
+    table: &[u32; 1024],
     w: &[u8; 240],
     nr: usize,
     l: [u8; 16],
@@ -26,15 +26,15 @@ fn seal_two(
     at: usize,
     out: &mut [u8],
 ) -> [u8; 16]
-    requires { ⌜ now table ≡ sbox ⌝ }
-    requires { ⌜ (0 < nr) × (nr ≤ 14) ⌝ }
+    requires { ⌜ now table ≡ joined ⌝ }
+    requires { ⌜ (10 ≤ nr) × (nr ≤ 14) ⌝ }
     requires { ⌜ (at + 16 < length (now m)) × ((length (now m) ≤ at + 32) × (length (now m) ≤ length (now out))) ⌝ }
     ensures { λ _. ⌜ now (out .exit) ≡ lay at (ending (cipher nr (now (w .entry))) true l r (drop at (now (m .entry)))) (now (out .entry)) ⌝ }
     ensures { λ a. ⌜ a ≡ endSum (cipher nr (now (w .entry))) true l (drop at (now (m .entry))) ⌝ }
 {
     let n = m.len() - (at + 16);
     let p = block::read_block(m, at);
-    let z = aes::encrypt(table, w, nr, block::xor(l, p));
+    let z = joined::encrypt(table, w, nr, block::xor(l, p));
     let last = block::xor(block::read(m, at + 16, n), z);
     let padded = block::pad(last, n);
     let before = half(table, w, nr, r, padded, p);
@@ -44,7 +44,7 @@ fn seal_two(
 
 // Two cipher blocks of c from place at on, undone.
 fn open_two(
-    table: &[u8; 256],
+    table: &[u32; 1024],
     w: &[u8; 240],
     nr: usize,
     l: [u8; 16],
@@ -53,8 +53,8 @@ fn open_two(
     at: usize,
     out: &mut [u8],
 ) -> [u8; 16]
-    requires { ⌜ now table ≡ sbox ⌝ }
-    requires { ⌜ (0 < nr) × (nr ≤ 14) ⌝ }
+    requires { ⌜ now table ≡ joined ⌝ }
+    requires { ⌜ (10 ≤ nr) × (nr ≤ 14) ⌝ }
     requires { ⌜ (at + 16 < length (now c)) × ((length (now c) ≤ at + 32) × (length (now c) ≤ length (now out))) ⌝ }
     ensures { λ _. ⌜ now (out .exit) ≡ lay at (unending (cipher nr (now (w .entry))) true l r (drop at (now (c .entry)))) (now (out .entry)) ⌝ }
     ensures { λ a. ⌜ a ≡ undoneSum (cipher nr (now (w .entry))) true l r (drop at (now (c .entry))) ⌝ }
@@ -63,14 +63,14 @@ fn open_two(
     let last = block::read(c, at + 16, n);
     let padded = block::pad(last, n);
     let first = half(table, w, nr, r, padded, block::read_block(c, at));
-    let e = aes::encrypt(table, w, nr, block::xor(l, first));
+    let e = joined::encrypt(table, w, nr, block::xor(l, first));
     put_two(out, at, first, block::xor(last, e), n);
     block::xor(e, padded)
 }
 
 // One block from place at on, sealed or undone: what was written comes back, with no meaning behind its end.
 fn one(
-    table: &[u8; 256],
+    table: &[u32; 1024],
     w: &[u8; 240],
     nr: usize,
     l: [u8; 16],
@@ -78,14 +78,14 @@ fn one(
     at: usize,
     out: &mut [u8],
 ) -> [u8; 16]
-    requires { ⌜ now table ≡ sbox ⌝ }
-    requires { ⌜ (0 < nr) × (nr ≤ 14) ⌝ }
+    requires { ⌜ now table ≡ joined ⌝ }
+    requires { ⌜ (10 ≤ nr) × (nr ≤ 14) ⌝ }
     requires { ⌜ (at ≤ length (now src)) × ((length (now src) ≤ at + 16) × (length (now src) ≤ length (now out))) ⌝ }
     ensures { λ _. ⌜ now (out .exit) ≡ lay at (xor (drop at (now (src .entry))) (cipher nr (now (w .entry)) l)) (now (out .entry)) ⌝ }
     ensures { λ a. ⌜ take (length (now (src .entry)) - at) a ≡ xor (drop at (now (src .entry))) (cipher nr (now (w .entry)) l) ⌝ }
 {
     let n = src.len() - at;
-    let e = aes::encrypt(table, w, nr, l);
+    let e = joined::encrypt(table, w, nr, l);
     let x = block::xor(block::read(src, at, n), e);
     lists::lay(out, at, &x[..n]);
     x
@@ -93,7 +93,7 @@ fn one(
 
 // One block of the message m from place at on.
 fn seal_one(
-    table: &[u8; 256],
+    table: &[u32; 1024],
     w: &[u8; 240],
     nr: usize,
     l: [u8; 16],
@@ -101,8 +101,8 @@ fn seal_one(
     at: usize,
     out: &mut [u8],
 ) -> [u8; 16]
-    requires { ⌜ now table ≡ sbox ⌝ }
-    requires { ⌜ (0 < nr) × (nr ≤ 14) ⌝ }
+    requires { ⌜ now table ≡ joined ⌝ }
+    requires { ⌜ (10 ≤ nr) × (nr ≤ 14) ⌝ }
     requires { ⌜ (at ≤ length (now m)) × ((length (now m) ≤ at + 16) × (length (now m) ≤ length (now out))) ⌝ }
     ensures { λ _. ⌜ now (out .exit) ≡ lay at (ending (cipher nr (now (w .entry))) false l l (drop at (now (m .entry)))) (now (out .entry)) ⌝ }
     ensures { λ a. ⌜ a ≡ endSum (cipher nr (now (w .entry))) false l (drop at (now (m .entry))) ⌝ }
@@ -114,7 +114,7 @@ fn seal_one(
 
 // One cipher block of c from place at on, undone.
 fn open_one(
-    table: &[u8; 256],
+    table: &[u32; 1024],
     w: &[u8; 240],
     nr: usize,
     l: [u8; 16],
@@ -122,8 +122,8 @@ fn open_one(
     at: usize,
     out: &mut [u8],
 ) -> [u8; 16]
-    requires { ⌜ now table ≡ sbox ⌝ }
-    requires { ⌜ (0 < nr) × (nr ≤ 14) ⌝ }
+    requires { ⌜ now table ≡ joined ⌝ }
+    requires { ⌜ (10 ≤ nr) × (nr ≤ 14) ⌝ }
     requires { ⌜ (at ≤ length (now c)) × ((length (now c) ≤ at + 16) × (length (now c) ≤ length (now out))) ⌝ }
     ensures { λ _. ⌜ now (out .exit) ≡ lay at (unending (cipher nr (now (w .entry))) false l l (drop at (now (c .entry)))) (now (out .entry)) ⌝ }
     ensures { λ a. ⌜ a ≡ undoneSum (cipher nr (now (w .entry))) false l l (drop at (now (c .entry))) ⌝ }
@@ -135,7 +135,7 @@ fn open_one(
 
 // What remains of the message m from place at on: two blocks, or one.
 pub fn seal_rest(
-    table: &[u8; 256],
+    table: &[u32; 1024],
     w: &[u8; 240],
     nr: usize,
     l: [u8; 16],
@@ -144,8 +144,8 @@ pub fn seal_rest(
     at: usize,
     out: &mut [u8],
 ) -> [u8; 16]
-    requires { ⌜ now table ≡ sbox ⌝ }
-    requires { ⌜ (0 < nr) × (nr ≤ 14) ⌝ }
+    requires { ⌜ now table ≡ joined ⌝ }
+    requires { ⌜ (10 ≤ nr) × (nr ≤ 14) ⌝ }
     requires { ⌜ (at ≤ length (now m)) × ((length (now m) ≤ at + 32) × (length (now m) ≤ length (now out))) ⌝ }
     ensures { λ _. ⌜ now (out .exit) ≡ lay at (ending (cipher nr (now (w .entry))) (ltb (at + 16) (length (now (m .entry)))) l r (drop at (now (m .entry)))) (now (out .entry)) ⌝ }
     ensures { λ a. ⌜ a ≡ endSum (cipher nr (now (w .entry))) (ltb (at + 16) (length (now (m .entry)))) l (drop at (now (m .entry))) ⌝ }
@@ -158,7 +158,7 @@ pub fn seal_rest(
 
 // What remains of the ciphertext c from place at on, undone.
 pub fn open_rest(
-    table: &[u8; 256],
+    table: &[u32; 1024],
     w: &[u8; 240],
     nr: usize,
     l: [u8; 16],
@@ -167,8 +167,8 @@ pub fn open_rest(
     at: usize,
     out: &mut [u8],
 ) -> [u8; 16]
-    requires { ⌜ now table ≡ sbox ⌝ }
-    requires { ⌜ (0 < nr) × (nr ≤ 14) ⌝ }
+    requires { ⌜ now table ≡ joined ⌝ }
+    requires { ⌜ (10 ≤ nr) × (nr ≤ 14) ⌝ }
     requires { ⌜ (at ≤ length (now c)) × ((length (now c) ≤ at + 32) × (length (now c) ≤ length (now out))) ⌝ }
     ensures { λ _. ⌜ now (out .exit) ≡ lay at (unending (cipher nr (now (w .entry))) (ltb (at + 16) (length (now (c .entry)))) l r (drop at (now (c .entry)))) (now (out .entry)) ⌝ }
     ensures { λ a. ⌜ a ≡ undoneSum (cipher nr (now (w .entry))) (ltb (at + 16) (length (now (c .entry)))) l r (drop at (now (c .entry))) ⌝ }
@@ -201,7 +201,7 @@ fn end_mask(l: [u8; 16], r: [u8; 16], n: usize) -> [u8; 16]
 
 // TE from the masks l and r behind the pairs, where n bytes remain, and the checksum s.
 pub fn te(
-    table: &[u8; 256],
+    table: &[u32; 1024],
     w: &[u8; 240],
     nr: usize,
     l: [u8; 16],
@@ -209,9 +209,9 @@ pub fn te(
     n: usize,
     s: [u8; 16],
 ) -> [u8; 16]
-    requires { ⌜ now table ≡ sbox ⌝ }
-    requires { ⌜ (0 < nr) × (nr ≤ 14) ⌝ }
+    requires { ⌜ now table ≡ joined ⌝ }
+    requires { ⌜ (10 ≤ nr) × (nr ≤ 14) ⌝ }
     ensures { λ a. ⌜ a ≡ cipher nr (now (w .entry)) (xor (final (third l) (ltb (lastLength (ltb 16 n) n) 16) (base (ltb 16 n) l r)) s) ⌝ }
 {
-    aes::encrypt(table, w, nr, block::xor(end_mask(l, r, n), s))
+    joined::encrypt(table, w, nr, block::xor(end_mask(l, r, n), s))
 }

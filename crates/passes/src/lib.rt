@@ -1,10 +1,10 @@
 // The passes of AES-OTR v3.1 over an expanded key: w is the flat array of its words, nr its round count, and table the byte
 // substitution, which every function is lent. In the contracts the cipher E is `cipher nr (now w)`.
 ghost use mathlib.Core.Path.{_≡_};
-ghost use Prim.Native.Nat.{_+_, _-_, _≤_, _<_};
+ghost use Prim.Native.Nat.{_+_, _-_, _≤_};
 ghost use lib.ListN.{length};
 ghost use Rattle.lists.specs.Lay.{lay};
-ghost use Rattle.field.specs.Substitution.{sbox};
+ghost use Rattle.tables.specs.Joined.{joined};
 ghost use Rattle.aes.specs.Cipher.{cipher};
 ghost use Rattle.mode.specs.Form.{formOf};
 ghost use Rattle.mode.specs.Sealing.{u as uOf, added as addedOf, otr};
@@ -29,21 +29,21 @@ struct SealsWith {
 // What the form with this number seals with, for the nonce n and the associated data a.
 fn seals_with(
     form: usize,
-    table: &[u8; 256],
+    table: &[u32; 1024],
     w: &[u8; 240],
     nr: usize,
     n: &[u8],
     a: &[u8],
     t: usize,
 ) -> SealsWith
-    requires { ⌜ now table ≡ sbox ⌝ }
-    requires { ⌜ (0 < nr) × (nr ≤ 14) ⌝ }
+    requires { ⌜ now table ≡ joined ⌝ }
+    requires { ⌜ (10 ≤ nr) × (nr ≤ 14) ⌝ }
     requires { ⌜ (1 ≤ length (now n)) × ((length (now n) ≤ 15) × (t ≤ 16)) ⌝ }
     ensures { λ r. ⌜ r .u ≡ uOf (cipher nr (now (w .entry))) (formOf form) (now (n .entry)) (now (a .entry)) t ⌝ }
     ensures { λ r. ⌜ r .added ≡ addedOf (cipher nr (now (w .entry))) (formOf form) (now (n .entry)) (now (a .entry)) t ⌝ }
 {
     let q = data::first_q(table, w, nr, a);
-    let v = aes::encrypt(table, w, nr, nonce::format(t, n));
+    let v = joined::encrypt(table, w, nr, nonce::format(t, n));
     if form == 0 {
         let ta = parallel::ta(table, w, nr, q, a);
         return SealsWith { u: v, added: ta };
@@ -59,7 +59,7 @@ fn seals_with(
 // Seals the message m with nonce n and associated data a into out: the ciphertext, and t bytes of tag behind it.
 pub fn seal(
     form: usize,
-    table: &[u8; 256],
+    table: &[u32; 1024],
     w: &[u8; 240],
     nr: usize,
     n: &[u8],
@@ -68,8 +68,8 @@ pub fn seal(
     t: usize,
     out: &mut [u8],
 )
-    requires { ⌜ now table ≡ sbox ⌝ }
-    requires { ⌜ (0 < nr) × (nr ≤ 14) ⌝ }
+    requires { ⌜ now table ≡ joined ⌝ }
+    requires { ⌜ (10 ≤ nr) × (nr ≤ 14) ⌝ }
     requires { ⌜ (1 ≤ length (now n)) × ((length (now n) ≤ 15) × (t ≤ 16)) ⌝ }
     requires { ⌜ length (now m) + t ≤ length (now out) ⌝ }
     ensures { λ _. ⌜ now (out .exit) ≡ lay 0 (otr (cipher nr (now (w .entry))) (formOf form) (now (n .entry)) (now (a .entry)) t (now (m .entry))) (now (out .entry)) ⌝ }
@@ -85,7 +85,7 @@ pub fn seal(
 // Opens s, whose last t bytes are the tag, into out, and says whether the tag matches. Where it does not, the message is cleared.
 pub fn open(
     form: usize,
-    table: &[u8; 256],
+    table: &[u32; 1024],
     w: &[u8; 240],
     nr: usize,
     n: &[u8],
@@ -94,8 +94,8 @@ pub fn open(
     t: usize,
     out: &mut [u8],
 ) -> bool
-    requires { ⌜ now table ≡ sbox ⌝ }
-    requires { ⌜ (0 < nr) × (nr ≤ 14) ⌝ }
+    requires { ⌜ now table ≡ joined ⌝ }
+    requires { ⌜ (10 ≤ nr) × (nr ≤ 14) ⌝ }
     requires { ⌜ (1 ≤ length (now n)) × ((length (now n) ≤ 15) × (t ≤ 16)) ⌝ }
     requires { ⌜ (t ≤ length (now s)) × (length (now s) - t ≤ length (now out)) ⌝ }
     ensures { λ r. ⌜ r ≡ flag (found (cipher nr (now (w .entry))) (formOf form) (now (n .entry)) (now (a .entry)) t (now (s .entry))) ⌝ }

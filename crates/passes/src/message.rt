@@ -1,9 +1,9 @@
 // The message pass: the pairs, the last one or two blocks, and TE.
 ghost use mathlib.Core.Path.{_≡_};
-ghost use Prim.Native.Nat.{_≤_, _<_};
+ghost use Prim.Native.Nat.{_≤_};
 ghost use lib.ListN.{length};
 ghost use Rattle.lists.specs.Lay.{lay};
-ghost use Rattle.field.specs.Substitution.{sbox};
+ghost use Rattle.tables.specs.Joined.{joined};
 ghost use Rattle.aes.specs.Cipher.{cipher};
 ghost use Rattle.mode.specs.Masks.{third};
 ghost use Rattle.mode.specs.Message.{pairsOf, body, te as teOf};
@@ -23,15 +23,15 @@ fn pairs_of(b: usize) -> usize
 
 // Seals the message m into out, and gives TE.
 pub fn seal(
-    table: &[u8; 256],
+    table: &[u32; 1024],
     w: &[u8; 240],
     nr: usize,
     u: [u8; 16],
     m: &[u8],
     out: &mut [u8],
 ) -> [u8; 16]
-    requires { ⌜ now table ≡ sbox ⌝ }
-    requires { ⌜ (0 < nr) × (nr ≤ 14) ⌝ }
+    requires { ⌜ now table ≡ joined ⌝ }
+    requires { ⌜ (10 ≤ nr) × (nr ≤ 14) ⌝ }
     requires { ⌜ length (now m) ≤ length (now out) ⌝ }
     ensures { λ _. ⌜ now (out .exit) ≡ lay 0 (body (cipher nr (now (w .entry))) (third u) (now (m .entry))) (now (out .entry)) ⌝ }
     ensures { λ a. ⌜ a ≡ teOf (cipher nr (now (w .entry))) (third u) (now (m .entry)) ⌝ }
@@ -48,15 +48,15 @@ pub fn seal(
 
 // Undoes the ciphertext c into out, and gives TE of the message that was recovered.
 pub fn open(
-    table: &[u8; 256],
+    table: &[u32; 1024],
     w: &[u8; 240],
     nr: usize,
     u: [u8; 16],
     c: &[u8],
     out: &mut [u8],
 ) -> [u8; 16]
-    requires { ⌜ now table ≡ sbox ⌝ }
-    requires { ⌜ (0 < nr) × (nr ≤ 14) ⌝ }
+    requires { ⌜ now table ≡ joined ⌝ }
+    requires { ⌜ (10 ≤ nr) × (nr ≤ 14) ⌝ }
     requires { ⌜ length (now c) ≤ length (now out) ⌝ }
     ensures { λ _. ⌜ now (out .exit) ≡ lay 0 (unbody (cipher nr (now (w .entry))) (third u) (now (c .entry))) (now (out .entry)) ⌝ }
     ensures { λ a. ⌜ a ≡ teOf (cipher nr (now (w .entry))) (third u) (unbody (cipher nr (now (w .entry))) (third u) (now (c .entry))) ⌝ }

@@ -1,29 +1,48 @@
 // The pairs of the message pass. One step serves both directions: opening calls it with the two masks exchanged.
 ghost use mathlib.Core.Path.{_≡_};
 ghost use mathlib.Core.List.{_++_};
-ghost use Prim.Native.Nat.{_+_, _*_, _≤_, _<_};
+ghost use Prim.Native.Nat.{_+_, _*_, _≤_};
 ghost use lib.ListN.{length, take};
 ghost use Rattle.lists.specs.Lay.{lay};
-ghost use Rattle.field.specs.Substitution.{sbox};
+ghost use Rattle.tables.specs.Joined.{joined};
 ghost use Rattle.aes.specs.Cipher.{cipher};
+ghost use Rattle.block.specs.Wide.{bytesOf};
 ghost use Rattle.mode.specs.Masks.{doubles, doubled};
 ghost use Rattle.mode.specs.Message.{block as blockOf, half as halfOf, pair as pairOf, pairs as pairsOf, sum as sumOf};
 
+// E(l ⊕ x) ⊕ y, as words.
+fn half_words(
+    table: &[u32; 1024],
+    w: &[u8; 240],
+    nr: usize,
+    l: [u64; 2],
+    x: [u64; 2],
+    y: [u64; 2],
+) -> [u64; 2]
+    requires { ⌜ now table ≡ joined ⌝ }
+    requires { ⌜ (10 ≤ nr) × (nr ≤ 14) ⌝ }
+    ensures { λ a. ⌜ bytesOf a ≡ halfOf (cipher nr (now (w .entry))) (bytesOf l) (bytesOf x) (bytesOf y) ⌝ }
+{
+    let inner = block::from_words(block::xor_words(l, x));
+    let e = block::to_words(joined::encrypt(table, w, nr, inner));
+    block::xor_words(y, e)
+}
+
 // E(l ⊕ x) ⊕ y.
 pub fn half(
-    table: &[u8; 256],
+    table: &[u32; 1024],
     w: &[u8; 240],
     nr: usize,
     l: [u8; 16],
     x: [u8; 16],
     y: [u8; 16],
 ) -> [u8; 16]
-    requires { ⌜ now table ≡ sbox ⌝ }
-    requires { ⌜ (0 < nr) × (nr ≤ 14) ⌝ }
+    requires { ⌜ now table ≡ joined ⌝ }
+    requires { ⌜ (10 ≤ nr) × (nr ≤ 14) ⌝ }
     ensures { λ a. ⌜ a ≡ halfOf (cipher nr (now (w .entry))) l x y ⌝ }
 {
     let inner = block::xor(l, x);
-    let e = aes::encrypt(table, w, nr, inner);
+    let e = joined::encrypt(table, w, nr, inner);
     block::xor(y, e)
 }
 
@@ -36,27 +55,78 @@ pub fn put_two(out: &mut [u8], at: usize, a: [u8; 16], b: [u8; 16], n: usize)
     lists::lay(out, at + 16, &b[..n]);
 }
 
+fn read_words(src: &[u8], at: usize) -> [u64; 2]
+    requires { ⌜ at + 16 ≤ length (now src) ⌝ }
+    ensures { λ a. ⌜ bytesOf a ≡ blockOf (now (src .entry)) at ⌝ }
+{
+    block::to_words(block::read_block(src, at))
+}
+
+fn put_pair(out: &mut [u8], at: usize, first: [u64; 2], second: [u64; 2])
+    requires { ⌜ at + 32 ≤ length (now out) ⌝ }
+    ensures { λ _. ⌜ now (out .exit) ≡ lay at (bytesOf first ++ bytesOf second) (now (out .entry)) ⌝ }
+{
+    put_two(
+        out,
+        at,
+        block::from_words(first),
+        block::from_words(second),
+        16,
+    );
+}
+
 // The pair of src at place at, with the masks l and r, into out at the same place.
 fn pair(
-    table: &[u8; 256],
+    table: &[u32; 1024],
     w: &[u8; 240],
     nr: usize,
-    l: [u8; 16],
-    r: [u8; 16],
+    l: [u64; 2],
+    r: [u64; 2],
     src: &[u8],
     at: usize,
     out: &mut [u8],
 )
-    requires { ⌜ now table ≡ sbox ⌝ }
-    requires { ⌜ (0 < nr) × (nr ≤ 14) ⌝ }
+    requires { ⌜ now table ≡ joined ⌝ }
+    requires { ⌜ (10 ≤ nr) × (nr ≤ 14) ⌝ }
     requires { ⌜ (at + 32 ≤ length (now src)) × (at + 32 ≤ length (now out)) ⌝ }
-    ensures { λ _. ⌜ now (out .exit) ≡ lay at (pairOf (cipher nr (now (w .entry))) l r (blockOf (now (src .entry)) at) (blockOf (now (src .entry)) (at + 16))) (now (out .entry)) ⌝ }
+    ensures { λ _. ⌜ now (out .exit) ≡ lay at (pairOf (cipher nr (now (w .entry))) (bytesOf l) (bytesOf r) (blockOf (now (src .entry)) at) (blockOf (now (src .entry)) (at + 16))) (now (out .entry)) ⌝ }
 {
-    let p = block::read_block(src, at);
-    let q = block::read_block(src, at + 16);
-    let first = half(table, w, nr, l, p, q);
-    let second = half(table, w, nr, r, first, p);
-    put_two(out, at, first, second, 16);
+    let p = read_words(src, at);
+    let q = read_words(src, at + 16);
+    let first = half_words(table, w, nr, l, p, q);
+    let second = half_words(table, w, nr, r, first, p);
+    put_pair(out, at, first, second);
+}
+
+// The same, and the pair behind it with the masks next_l and next_r. No cipher waits for what the one before it gives, and a processor
+// begins the one before the other has ended.
+fn two_pairs(
+    table: &[u32; 1024],
+    w: &[u8; 240],
+    nr: usize,
+    l: [u64; 2],
+    r: [u64; 2],
+    next_l: [u64; 2],
+    next_r: [u64; 2],
+    src: &[u8],
+    at: usize,
+    out: &mut [u8],
+)
+    requires { ⌜ now table ≡ joined ⌝ }
+    requires { ⌜ (10 ≤ nr) × (nr ≤ 14) ⌝ }
+    requires { ⌜ (at + 64 ≤ length (now src)) × (at + 64 ≤ length (now out)) ⌝ }
+    ensures { λ _. ⌜ now (out .exit) ≡ lay (at + 32) (pairOf (cipher nr (now (w .entry))) (bytesOf «next_l») (bytesOf «next_r») (blockOf (now (src .entry)) (at + 32)) (blockOf (now (src .entry)) (at + 48))) (lay at (pairOf (cipher nr (now (w .entry))) (bytesOf l) (bytesOf r) (blockOf (now (src .entry)) at) (blockOf (now (src .entry)) (at + 16))) (now (out .entry))) ⌝ }
+{
+    let p = read_words(src, at);
+    let q = read_words(src, at + 16);
+    let next_p = read_words(src, at + 32);
+    let next_q = read_words(src, at + 48);
+    let first = half_words(table, w, nr, l, p, q);
+    let next_first = half_words(table, w, nr, next_l, next_p, next_q);
+    let second = half_words(table, w, nr, r, first, p);
+    let next_second = half_words(table, w, nr, next_r, next_first, next_p);
+    put_pair(out, at, first, second);
+    put_pair(out, at + 32, next_first, next_second);
 }
 
 pub struct MaskPair {
@@ -64,9 +134,18 @@ pub struct MaskPair {
     pub right: [u8; 16],
 }
 
+fn mask_pair(left: [u64; 2], right: [u64; 2]) -> MaskPair
+    ensures { λ a. ⌜ (a .left ≡ bytesOf left) × (a .right ≡ bytesOf right) ⌝ }
+{
+    MaskPair {
+        left: block::from_words(left),
+        right: block::from_words(right),
+    }
+}
+
 // The first n pairs of src into out, from the masks l and r on. What comes back are the masks behind them.
 pub fn pairs(
-    table: &[u8; 256],
+    table: &[u32; 1024],
     w: &[u8; 240],
     nr: usize,
     l: [u8; 16],
@@ -75,27 +154,41 @@ pub fn pairs(
     n: usize,
     out: &mut [u8],
 ) -> MaskPair
-    requires { ⌜ now table ≡ sbox ⌝ }
-    requires { ⌜ (0 < nr) × (nr ≤ 14) ⌝ }
+    requires { ⌜ now table ≡ joined ⌝ }
+    requires { ⌜ (10 ≤ nr) × (nr ≤ 14) ⌝ }
     requires { ⌜ (32 * n ≤ length (now src)) × (32 * n ≤ length (now out)) ⌝ }
     ensures { λ a. ⌜ now (out .exit) ≡ lay 0 (pairsOf (cipher nr (now (w .entry))) (doubled l r) n (now (src .entry))) (now (out .entry)) ⌝ }
     ensures { λ a. ⌜ (a .left ≡ doubles n l) × (a .right ≡ doubles n r) ⌝ }
 {
-    let mut left = l;
-    let mut right = r;
+    let mut left = block::to_words(l);
+    let mut right = block::to_words(r);
     let mut i = 0;
-    while i < n {
-        pair(table, w, nr, left, right, src, 32 * i, out);
-        let a = block::double(left);
-        let b = block::double(right);
+    while i + 1 < n {
+        let next_left = block::double_words(left);
+        let next_right = block::double_words(right);
+        two_pairs(
+            table,
+            w,
+            nr,
+            left,
+            right,
+            next_left,
+            next_right,
+            src,
+            32 * i,
+            out,
+        );
+        let a = block::double_words(next_left);
+        let b = block::double_words(next_right);
         left = a;
         right = b;
-        i += 1;
+        i += 2;
     }
-    MaskPair {
-        left: left,
-        right: right,
+    if i < n {
+        pair(table, w, nr, left, right, src, 32 * i, out);
+        return mask_pair(block::double_words(left), block::double_words(right));
     }
+    mask_pair(left, right)
 }
 
 // The even blocks of the first n pairs of a message.

@@ -1,9 +1,9 @@
 // The associated data pass, parallel form.
 ghost use mathlib.Core.Path.{_≡_};
-ghost use Prim.Native.Nat.{_*_, _≤_, _<_};
+ghost use Prim.Native.Nat.{_*_, _≤_};
 ghost use lib.Dec.{ltb};
 ghost use lib.ListN.{length};
-ghost use Rattle.field.specs.Substitution.{sbox};
+ghost use Rattle.tables.specs.Joined.{joined};
 ghost use Rattle.aes.specs.Cipher.{cipher};
 ghost use Rattle.mode.specs.Form.{parallel};
 ghost use Rattle.mode.specs.Masks.{doubles};
@@ -17,15 +17,15 @@ pub struct DataSum {
 
 // The first n blocks of a, from the first Q on: their sum, and the Q behind them.
 fn data_sum(
-    table: &[u8; 256],
+    table: &[u32; 1024],
     w: &[u8; 240],
     nr: usize,
     first: [u8; 16],
     a: &[u8],
     n: usize,
 ) -> DataSum
-    requires { ⌜ now table ≡ sbox ⌝ }
-    requires { ⌜ (0 < nr) × (nr ≤ 14) ⌝ }
+    requires { ⌜ now table ≡ joined ⌝ }
+    requires { ⌜ (10 ≤ nr) × (nr ≤ 14) ⌝ }
     requires { ⌜ 16 * n ≤ length (now a) ⌝ }
     ensures { λ r. ⌜ (r .sum ≡ dataSum (cipher nr (now (w .entry))) first n (now (a .entry))) × (r .q ≡ doubles n first) ⌝ }
 {
@@ -34,7 +34,7 @@ fn data_sum(
     let mut i = 0;
     while i < n {
         let b = block::read_block(a, 16 * i);
-        let e = aes::encrypt(table, w, nr, block::xor(q, b));
+        let e = joined::encrypt(table, w, nr, block::xor(q, b));
         let t = block::xor(s, e);
         let d = block::double(q);
         s = t;
@@ -54,9 +54,9 @@ fn data_mask(q: [u8; 16], n: usize) -> [u8; 16]
     block::triple_twice(q)
 }
 
-pub fn ta(table: &[u8; 256], w: &[u8; 240], nr: usize, q: [u8; 16], a: &[u8]) -> [u8; 16]
-    requires { ⌜ now table ≡ sbox ⌝ }
-    requires { ⌜ (0 < nr) × (nr ≤ 14) ⌝ }
+pub fn ta(table: &[u32; 1024], w: &[u8; 240], nr: usize, q: [u8; 16], a: &[u8]) -> [u8; 16]
+    requires { ⌜ now table ≡ joined ⌝ }
+    requires { ⌜ (10 ≤ nr) × (nr ≤ 14) ⌝ }
     ensures { λ r. ⌜ r ≡ taOf (cipher nr (now (w .entry))) (dataPass (cipher nr (now (w .entry))) q parallel) (now (a .entry)) ⌝ }
 {
     let n = data::before_last(a.len());

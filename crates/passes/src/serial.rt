@@ -1,18 +1,18 @@
 // The associated data pass, serial form.
 ghost use mathlib.Core.Path.{_≡_};
-ghost use Prim.Native.Nat.{_*_, _≤_, _<_};
+ghost use Prim.Native.Nat.{_*_, _≤_};
 ghost use lib.Dec.{ltb};
 ghost use lib.ListN.{length};
-ghost use Rattle.field.specs.Substitution.{sbox};
+ghost use Rattle.tables.specs.Joined.{joined};
 ghost use Rattle.aes.specs.Cipher.{cipher};
 ghost use Rattle.mode.specs.Form.{serial};
 ghost use Rattle.mode.specs.Data.{chain as chainOf, chainFinal, dataPass, ta as taOf};
 use crate::data;
 
 // The first n blocks of a, each ciphered with what came out before it.
-fn chain(table: &[u8; 256], w: &[u8; 240], nr: usize, a: &[u8], n: usize) -> [u8; 16]
-    requires { ⌜ now table ≡ sbox ⌝ }
-    requires { ⌜ (0 < nr) × (nr ≤ 14) ⌝ }
+fn chain(table: &[u32; 1024], w: &[u8; 240], nr: usize, a: &[u8], n: usize) -> [u8; 16]
+    requires { ⌜ now table ≡ joined ⌝ }
+    requires { ⌜ (10 ≤ nr) × (nr ≤ 14) ⌝ }
     requires { ⌜ 16 * n ≤ length (now a) ⌝ }
     ensures { λ r. ⌜ r ≡ chainOf (cipher nr (now (w .entry))) n (now (a .entry)) ⌝ }
 {
@@ -20,7 +20,7 @@ fn chain(table: &[u8; 256], w: &[u8; 240], nr: usize, a: &[u8], n: usize) -> [u8
     let mut i = 0;
     while i < n {
         let b = block::read_block(a, 16 * i);
-        let e = aes::encrypt(table, w, nr, block::xor(b, xi));
+        let e = joined::encrypt(table, w, nr, block::xor(b, xi));
         xi = e;
         i += 1;
     }
@@ -37,9 +37,9 @@ fn chain_mask(q: [u8; 16], n: usize) -> [u8; 16]
     block::double(block::double(q))
 }
 
-pub fn ta(table: &[u8; 256], w: &[u8; 240], nr: usize, q: [u8; 16], a: &[u8]) -> [u8; 16]
-    requires { ⌜ now table ≡ sbox ⌝ }
-    requires { ⌜ (0 < nr) × (nr ≤ 14) ⌝ }
+pub fn ta(table: &[u32; 1024], w: &[u8; 240], nr: usize, q: [u8; 16], a: &[u8]) -> [u8; 16]
+    requires { ⌜ now table ≡ joined ⌝ }
+    requires { ⌜ (10 ≤ nr) × (nr ≤ 14) ⌝ }
     ensures { λ r. ⌜ r ≡ taOf (cipher nr (now (w .entry))) (dataPass (cipher nr (now (w .entry))) q serial) (now (a .entry)) ⌝ }
 {
     let n = data::before_last(a.len());

@@ -42,7 +42,7 @@ facts c =
 
 -- ---- once the passes have answered
 abbrev else-of : tie.After-open → tie.Else1
-else-of c = c .before .before .before .before .before .before .before .before
+else-of c = c .before .before .before .before .before .before .before .before .before
 
 -- what opening finds with E in the cipher's place, and with AES under the key
 abbrev found : tie.After-open → (List ℕ → List ℕ) → Opened
@@ -53,9 +53,9 @@ found c E =
 abbrev answer : tie.After-open → Opened
 answer c = found c (aes (start-of (else-of c .before .before) .args .key .now))
 
-found-is : (c : tie.After-open) → found c (cipher (c .before .before .before .before .before .expand .result .rounds) (c .before .before .before .before .before .expand .result .words)) ≡ answer c
+found-is : (c : tie.After-open) → found c (cipher (c .before .before .before .before .before .before .expand .result .rounds) (c .before .before .before .before .before .before .expand .result .words)) ≡ answer c
 found-is c =
-    let at-expand = c .before .before .before .before .before in
+    let at-expand = c .before .before .before .before .before .before in
     let key = start-of (else-of c .before .before) .args .key .now in
     ap (found c) (cipher-is key (keyed key (facts (else-of c) .0 .0 .known)) (at-expand .expand .result) (at-expand .expand .ensures))
 
@@ -91,13 +91,13 @@ returns c =
 
 open-requires : tie.Need-open-requires
 open-requires c κs =
-    let at-expand = c .before .before .before .before in
-    let at-sbox = at-expand .before .before in
-    let e = at-sbox .before in
+    let at-tables = c .before .before .before in
+    let at-expand = at-tables .before .before in
+    let e = at-expand .before .before .before in
     let v = start-of (e .before .before) .args in
     let f = facts e .0 in
     let key = v .key .now in (
-      at-sbox .sbox .ensures,
+      at-tables .joined .ensures,
       (
         rounds-in key (keyed key (f .0 .known)) (at-expand .expand .result) (at-expand .expand .ensures),
         ((f .0 .nonces .0, (f .0 .nonces .1, f .0 .tags .1)), (f .1, f .3)),
@@ -123,4 +123,4 @@ returns-3 c =
 
 pub open-spec : {M : Type 1} → statement M
 open-spec =
-    tie.close (tie.spec (λ c κs. search needs) (λ c κs. search needs) returns (λ c κs. search needs) (λ c κs. search needs) open-requires (λ c. search needs) returns-2 (λ c. search needs) returns-3)
+    tie.close (tie.spec (λ c κs. search needs) (λ c κs. search needs) returns (λ c κs. search needs) (λ c κs. search needs) (λ c κs. search needs) open-requires (λ c. search needs) returns-2 (λ c. search needs) returns-3)

@@ -43,13 +43,13 @@ returns c =
 
 seal-requires : tie.Need-seal-requires
 seal-requires c κs =
-    let at-expand = c .before .before .before .before in
-    let at-sbox = at-expand .before .before in
-    let e = at-sbox .before in
+    let at-tables = c .before .before .before in
+    let at-expand = at-tables .before .before in
+    let e = at-expand .before .before .before in
     let v = start-of (e .before .before) .args in
     let f = facts e .0 in
     let key = v .key .now in (
-      at-sbox .sbox .ensures,
+      at-tables .joined .ensures,
       (
         rounds-in key (keyed key (f .0 .known)) (at-expand .expand .result) (at-expand .expand .ensures),
         ((f .0 .nonces .0, (f .0 .nonces .1, f .0 .tags .1)), f .2),
@@ -60,7 +60,7 @@ returns-2 : tie.Need-returns-2
 unfolding Seals
 returns-2 c =
     let at-seal = c .before .before in
-    let at-expand = at-seal .before .before .before .before .before in
+    let at-expand = at-seal .before .before .before .before .before .before in
     let e = at-expand .before .before .before in
     let at-check = e .before .before in
     let v = start-of at-check .args in
@@ -76,4 +76,4 @@ returns-2 c =
 
 pub seal-spec : {M : Type 1} → statement M
 seal-spec =
-    tie.close (tie.spec (λ c κs. search needs) (λ c κs. search needs) returns (λ c κs. search needs) (λ c κs. search needs) seal-requires (λ c. search needs) returns-2)
+    tie.close (tie.spec (λ c κs. search needs) (λ c κs. search needs) returns (λ c κs. search needs) (λ c κs. search needs) (λ c κs. search needs) seal-requires (λ c. search needs) returns-2)

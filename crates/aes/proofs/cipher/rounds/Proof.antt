@@ -1,10 +1,10 @@
 -- `aes::cipher::rounds` meets its contract. The loop's invariant: the state is that after i rounds. Assumes nothing.
 use mathlib.Core.Path.{_≡_, refl, ap, _∙_}
-use Prim.Native.Nat.{ℕ, _+_, _-_, _≤_}
+use Prim.Native.Nat.{ℕ, _-_, _≤_}
 use native.Mathlib.Omega.{arith}
 use borrow.Author.Needs.{needs}
-use Rattle.aes.specs.Cipher.{round, rounds}
-use Rattle.aes.proofs.Rounds.{rounds-step}
+use Rattle.aes.specs.Cipher.{rounds}
+use Rattle.aes.proofs.Rounds.{rounds-more}
 use Rattle.aes.proofs.cipher.rounds.Statement.{statement}
 use Rattle.aes.proofs.cipher.rounds.Tie as tie
 
@@ -21,8 +21,8 @@ loop-holds c = (search needs, refl)
 loop-again : tie.Need-loop-again Inv-loop μ-loop
 loop-again c =
     let v = c .before .before .before .args in
-    let i = c .before .before .loop .i in
-    (search needs, c .round .ensures ∙ ap (round (v .w .now) (i + 1)) (c .before .before .loop .inv .1) ∙ rounds-step (v .w .now) i (v .first))
+    let h = c .before .before .loop in
+    (search needs, rounds-more (v .w .now) (h .i) (v .first) (h .s) _ (h .inv .1) (c .round .ensures))
 
 returns : tie.Need-returns Inv-loop μ-loop
 returns c =

@@ -7,20 +7,21 @@ use lib.ListN.{length}
 use Rattle.lists.specs.Lay.{lay}
 use Rattle.aes.specs.Cipher.{cipher}
 use Rattle.block.specs.Block.{double}
+use Rattle.block.specs.Wide.{bytesOf}
+use Rattle.block.proofs.Words.{length-bytes}
 use Rattle.mode.specs.Masks.{doubles, doubled}
-use Rattle.mode.specs.Message.{block, pair, pairs}
+use Rattle.mode.specs.Message.{pairs}
 use borrow.Author.Needs.{needs}
-use Rattle.mode.proofs.Third.{doubled-masks}
 use Rattle.passes.proofs.Cipher.{is-cipher}
-use Rattle.passes.proofs.Steps.{doubles-step, lay-pair}
+use Rattle.passes.proofs.Steps.{doubles-step, laid-more}
 use Rattle.passes.proofs.pairs.pairs.Statement.{statement}
 use Rattle.passes.proofs.pairs.pairs.Tie as tie
 
 abbrev Inv-loop : tie.InvT-loop
 Inv-loop table w nr src n out₀ left₀ right₀ i₀ out left right i =
     (i ≤ n)
-    × (out ≡ lay 0 (pairs (cipher nr w) (doubled left₀ right₀) i src) out₀)
-    × ((left ≡ doubles i left₀) × (right ≡ doubles i right₀))
+    × (out ≡ lay 0 (pairs (cipher nr w) (doubled (bytesOf left₀) (bytesOf right₀)) i src) out₀)
+    × ((bytesOf left ≡ doubles i (bytesOf left₀)) × (bytesOf right ≡ doubles i (bytesOf right₀)))
     × (length out ≡ length out₀)
 
 abbrev μ-loop : tie.MeasureT-loop
@@ -30,48 +31,97 @@ loop-holds : tie.Need-loop-holds Inv-loop μ-loop
 unfolding pairs doubles
 loop-holds c = (search needs, refl, (refl, refl), refl)
 
-pair-requires : tie.Need-pair-requires Inv-loop μ-loop
-pair-requires c κs =
-    let at-loop = c .before .before in
-    let pre = at-loop .before .before .before .pre in
-    (pre .0, (pre .1 .0, (omega (arith, pre .1 .1, at-loop .loop .inv), omega (arith, pre .1 .1, at-loop .loop .inv))))
+two-pairs-requires : tie.Need-two-pairs-requires Inv-loop μ-loop
+two-pairs-requires c κs =
+    let at-loop = c .before .before .before .before in
+    let pre = at-loop .before .before .before .before .before .pre in
+    let more = c .before .before .before in
+    (pre .0, (pre .1 .0, (omega (arith, pre .1 .1, at-loop .loop .inv, more), omega (arith, pre .1 .1, at-loop .loop .inv, more))))
 
 loop-again : tie.Need-loop-again Inv-loop μ-loop
 loop-again c =
-    let at-loop = c .before .before .before .before .before .before .before in
-    let start = at-loop .before .before .before in
+    let at-two = c .before .before .before .before in
+    let at-right = at-two .before .before in
+    let at-left = at-right .before in
+    let at-loop = at-left .before .before in
+    let start = at-loop .before .before .before .before .before in
     let v = start .args in
     let h = at-loop .loop in
     let i = h .i in
-    let src = v .src .now in
-    let out = v .out .now in
-    let E = cipher (v .nr) (v .w .now) in
-    let left-long : length (v .l) ≡ 16 = search (start .good) in
-    let right-long : length (v .r) ≡ 16 = search (start .good) in
-    let step =
-    lay-pair E (is-cipher (v .nr) (v .w .now)) (doubled (v .l) (v .r)) (doubled-masks (v .l) (v .r) left-long right-long) i src out
-    (omega (arith, start .pre, at-loop .loop)) (omega (arith, start .pre, at-loop .loop)) in (
-      omega (arith, c .before .before .before .before .before .before),
-      c .before .before .before .before .pair .ensures
-          ∙ ap₂ (λ (l r : List ℕ). lay (32 * i) (pair E l r (block src (32 * i)) (block src (32 * i + 16))) (h .out)) (h .inv .2 .0) (h .inv .2 .1)
-          ∙ ap (lay (32 * i) (pair E (doubles i (v .l)) (doubles i (v .r)) (block src (32 * i)) (block src (32 * i + 16)))) (h .inv .1)
-          ∙ step,
+    let L = bytesOf (at-loop .before .before .to-words .result) in
+    let R = bytesOf (at-loop .before .to-words2 .result) in
+    let more = laid-more (cipher (v .nr) (v .w .now)) (is-cipher (v .nr) (v .w .now)) L R (length-bytes _) (length-bytes _) (v .src .now) (v .out .now) in
+    let one = more i (32 * i) (32 * i + 16) _ _ (h .out) refl refl (omega arith) (omega arith) (h .inv .2 .0) (h .inv .2 .1) (h .inv .1) in
+    let left-is = at-left .double-words .ensures ∙ ap double (h .inv .2 .0) ∙ doubles-step i L in
+    let right-is = at-right .double-words2 .ensures ∙ ap double (h .inv .2 .1) ∙ doubles-step i R in
+    let two = more (i + 1) (32 * i + 32) (32 * i + 48) _ _ _ (omega arith) (omega arith) (omega arith) (omega arith) left-is right-is one in
+    let next : i + 1 + 1 ≡ i + 2 = omega arith in (
+      omega arith,
+      at-two .two-pairs .ensures ∙ two ∙ ap (λ (j : ℕ). lay 0 (pairs (cipher (v .nr) (v .w .now)) (doubled L R) j (v .src .now)) (v .out .now)) next,
       (
-        c .before .double .ensures ∙ ap double (h .inv .2 .0) ∙ doubles-step i (v .l),
-        c .double2 .ensures ∙ ap double (h .inv .2 .1) ∙ doubles-step i (v .r),
+        c .before .double-words3 .ensures ∙ ap double left-is ∙ doubles-step (i + 1) L ∙ ap (λ (j : ℕ). doubles j L) next,
+        c .double-words4 .ensures ∙ ap double right-is ∙ doubles-step (i + 1) R ∙ ap (λ (j : ℕ). doubles j R) next,
       ),
-      c .before .before .before .before .pair .kept .1 .1 .1 .1 .1 .1 .1 .0 ∙ h .inv .3,
+      at-two .two-pairs .kept .1 .1 .1 .1 .1 .1 .1 .1 .1 .0 ∙ h .inv .3,
     )
+
+pair-requires : tie.Need-pair-requires Inv-loop μ-loop
+pair-requires c κs =
+    let at-loop = c .before .before .before in
+    let pre = at-loop .before .before .before .before .before .pre in
+    (pre .0, (pre .1 .0, (omega (arith, pre .1 .1, at-loop .loop .inv, c .before .before), omega (arith, pre .1 .1, at-loop .loop .inv, c .before .before))))
+
+-- what is known of all pairs from the words' masks, said of the blocks
+module _ (i n : ℕ) (done : i ≡ n) (L R l r : List ℕ) (hL : L ≡ l) (hR : R ≡ r) where
+  all : (E : List ℕ → List ℕ) (src out now : List ℕ) → now ≡ lay 0 (pairs E (doubled L R) i src) out → now ≡ lay 0 (pairs E (doubled l r) n src) out
+  all E src out now is =
+      is
+      ∙ ap (λ (j : ℕ). lay 0 (pairs E (doubled L R) j src) out) done
+      ∙ ap₂ (λ (a b : List ℕ). lay 0 (pairs E (doubled a b) n src) out) hL hR
+
+  masks : (a b : List ℕ) → a ≡ doubles i L → b ≡ doubles i R → (a ≡ doubles n l) × (b ≡ doubles n r)
+  masks a b p q = (p ∙ ap₂ doubles done hL, q ∙ ap₂ doubles done hR)
 
 returns : tie.Need-returns Inv-loop μ-loop
 returns c =
-    let h = c .before .loop in
-    let v = c .before .before .before .before .args in
+    let at-pair = c .before .before .before .before .before in
+    let at-loop = at-pair .before .before .before .before in
+    let start = at-loop .before .before .before .before .before in
+    let v = start .args in
+    let h = at-loop .loop in
+    let i = h .i in
+    let E = cipher (v .nr) (v .w .now) in
+    let src = v .src .now in
+    let out = v .out .now in
+    let left = at-loop .before .before .to-words in
+    let right = at-loop .before .to-words2 in
+    let L = bytesOf (left .result) in
+    let R = bytesOf (right .result) in
+    let done : i + 1 ≡ v .n = omega arith in
+    let more = laid-more E (is-cipher (v .nr) (v .w .now)) L R (length-bytes _) (length-bytes _) src out in
+    let one = more i (32 * i) (32 * i + 16) _ _ (h .out) refl refl (omega arith) (omega arith) (h .inv .2 .0) (h .inv .2 .1) (h .inv .1) in
+    let left-is = c .before .before .double-words5 .ensures ∙ ap double (h .inv .2 .0) ∙ doubles-step i L in
+    let right-is = c .before .double-words6 .ensures ∙ ap double (h .inv .2 .1) ∙ doubles-step i R in (
+      all (i + 1) (v .n) done L R (v .l) (v .r) (left .ensures) (right .ensures) E src out _ (at-pair .pair .ensures ∙ one),
+      masks (i + 1) (v .n) done L R (v .l) (v .r) (left .ensures) (right .ensures) _ _ (c .mask-pair .ensures .0 ∙ left-is) (c .mask-pair .ensures .1 ∙ right-is),
+    )
+
+returns-2 : tie.Need-returns-2 Inv-loop μ-loop
+returns-2 c =
+    let at-loop = c .before .before .before in
+    let start = at-loop .before .before .before .before .before in
+    let v = start .args in
+    let h = at-loop .loop in
+    let E = cipher (v .nr) (v .w .now) in
+    let left = at-loop .before .before .to-words in
+    let right = at-loop .before .to-words2 in
+    let L = bytesOf (left .result) in
+    let R = bytesOf (right .result) in
     let done : h .i ≡ v .n = omega arith in (
-      h .inv .1 ∙ ap (λ (k : ℕ). lay 0 (pairs (cipher (v .nr) (v .w .now)) (doubled (v .l) (v .r)) k (v .src .now)) (v .out .now)) done,
-      (h .inv .2 .0 ∙ ap (λ (k : ℕ). doubles k (v .l)) done, h .inv .2 .1 ∙ ap (λ (k : ℕ). doubles k (v .r)) done),
+      all (h .i) (v .n) done L R (v .l) (v .r) (left .ensures) (right .ensures) E (v .src .now) (v .out .now) _ (h .inv .1),
+      masks (h .i) (v .n) done L R (v .l) (v .r) (left .ensures) (right .ensures) _ _ (c .mask-pair2 .ensures .0 ∙ h .inv .2 .0) (c .mask-pair2 .ensures .1 ∙ h .inv .2 .1),
     )
 
 pub pairs-spec : {M : Type 1} → statement M
 pairs-spec =
-    tie.close (tie.spec Inv-loop μ-loop loop-holds (λ c. search needs) pair-requires (λ c κs. search needs) (λ c κs. search needs) (λ c. search needs) (λ c. search needs) loop-again (λ c. search needs) returns)
+    tie.close (tie.spec Inv-loop μ-loop (λ c κs. search needs) (λ c κs. search needs) loop-holds (λ c. search needs) (λ c κs. search needs) (λ c κs. search needs) (λ c. search needs) two-pairs-requires (λ c κs. search needs) (λ c κs. search needs) (λ c. search needs) (λ c. search needs) loop-again (λ c. search needs) pair-requires (λ c κs. search needs) (λ c κs. search needs) (λ c κs. search needs) (λ c. search needs) returns (λ c κs. search needs) (λ c. search needs) returns-2)

@@ -1,0 +1,22 @@
+-- `passes::pairs::half_words` meets its contract. Assumes nothing.
+use mathlib.Core.Path.{ap, _∙_}
+use borrow.Author.Needs.{needs}
+use Rattle.lists.specs.Xor.{xor}
+use Rattle.aes.specs.Cipher.{cipher}
+use Rattle.block.specs.Wide.{bytesOf}
+use Rattle.passes.proofs.pairs.half_words.Statement.{statement}
+use Rattle.passes.proofs.pairs.half_words.Tie as tie
+
+returns : tie.Need-returns
+returns c =
+    let at-encrypt = c .before .before in
+    let at-xor = at-encrypt .before .before in
+    let v = at-xor .before .args in
+    c .xor-words2 .ensures
+    ∙ ap (xor (bytesOf (v .y)))
+    (c .before .to-words .ensures
+    ∙ at-encrypt .encrypt .ensures
+    ∙ ap (cipher (v .nr) (v .w .now)) (at-encrypt .before .from-words .ensures ∙ at-xor .xor-words .ensures))
+
+pub half-words-spec : {M : Type 1} → statement M
+half-words-spec = tie.close (tie.spec (λ c κs. search needs) (λ c κs. search needs) (λ c κs. search needs) (λ c κs. search needs) (λ c κs. search needs) returns)
