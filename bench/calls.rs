@@ -15,7 +15,7 @@ fn main() {
         process::exit(2);
     };
     print!("{} ", case.repeat(&PLAIN, calls));
-    for byte in &case.output {
+    for byte in case.output() {
         print!("{byte:02x}");
     }
     println!();

@@ -10,6 +10,8 @@ const DATA_BYTES: usize = 16;
 const TAG_BYTES: usize = 16;
 /// What the output holds before a call.
 const UNTOUCHED: u8 = 0xa5;
+/// The output may begin at any place of a page.
+pub const LAST_PLACE: usize = 4095;
 
 type Call = fn(&Terms, &[u8], &mut [u8]) -> u32;
 
@@ -32,7 +34,10 @@ pub struct Case {
     data: Vec<u8>,
     /// The message or the sealed bytes.
     input: Vec<u8>,
-    pub output: Vec<u8>,
+    /// Holds the output, which begins at `place`.
+    buffer: Vec<u8>,
+    room: usize,
+    pub place: usize,
 }
 
 impl Case {
@@ -49,7 +54,9 @@ impl Case {
             nonce: by_rule(NONCE_BYTES),
             data: by_rule(DATA_BYTES),
             input: message,
-            output: vec![UNTOUCHED; room],
+            buffer: vec![UNTOUCHED; room + LAST_PLACE],
+            room,
+            place: 0,
         };
         match what.as_str() {
             "seal" => {}
@@ -64,9 +71,13 @@ impl Case {
     fn open_what_is_sealed(&mut self, change: u8) {
         self.repeat(&PLAIN, 1);
         self.opens = true;
-        let room = self.output.len();
-        self.input = std::mem::replace(&mut self.output, vec![UNTOUCHED; room]);
+        self.input = self.output().to_vec();
         self.input[0] ^= change;
+        self.buffer.fill(UNTOUCHED);
+    }
+
+    pub fn output(&self) -> &[u8] {
+        &self.buffer[self.place..][..self.room]
     }
 
     /// Makes the call so many times, and gives the last answer's number. What goes in and comes out
@@ -83,12 +94,13 @@ impl Case {
             false => implementation.seal,
             true => implementation.open,
         };
+        let output = &mut self.buffer[self.place..][..self.room];
         let mut number = 0;
         for _ in 0..calls {
             number = black_box(call)(
                 black_box(&terms),
                 black_box(&self.input),
-                black_box(&mut self.output),
+                black_box(&mut *output),
             );
         }
         number

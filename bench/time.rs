@@ -1,7 +1,8 @@
 //! Times the library against plain Rust, both in one process, and prints the library's rate in
 //! thousandths of plain Rust's, one line for each pair of batches. The two batches of a pair run
 //! side by side, so that what slows the machine down slows both, and each comes first in every
-//! other pair.
+//! other pair. How the output lies to the input in a page changes the time by some per cent, so
+//! that each pair has a place of its own.
 
 mod case;
 mod library;
@@ -10,7 +11,7 @@ mod plain;
 use std::time::{Duration, Instant};
 use std::{env, process};
 
-use case::{Case, Implementation, PLAIN};
+use case::{Case, Implementation, LAST_PLACE, PLAIN};
 
 const LIBRARY: Implementation = Implementation {
     seal: library::seal,
@@ -29,6 +30,7 @@ fn main() {
     };
     let calls = calls_in_batch(&mut case);
     for pair in 0..PAIRS {
+        case.place = LAST_PLACE * pair / PAIRS / 16 * 16;
         println!("{}", rate(&mut case, calls, pair % 2 == 0));
     }
 }
