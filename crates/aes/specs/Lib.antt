@@ -1,4 +1,5 @@
 pub mod State
 pub mod Cipher
+pub mod Column
 pub mod Expansion
 pub mod Key

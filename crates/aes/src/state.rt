@@ -1,6 +1,6 @@
 // The steps of a round, each on the state by value: four columns of four bytes (FIPS 197, sections 3.4 and 5.1).
 ghost use mathlib.Core.Path.{_≡_};
-ghost use Prim.Native.Nat.{_+_, _*_, _%_, _≤_, _<_};
+ghost use Prim.Native.Nat.{_+_, _*_, _≤_, _<_};
 ghost use lib.Bits.{bitXor};
 ghost use lib.ListN.{getD};
 ghost use Rattle.words.specs.Word.{little};
@@ -8,6 +8,7 @@ ghost use Rattle.field.specs.Substitution.{sbox};
 ghost use Rattle.aes.specs.State.{input as inputOf, output as outputOf, column, word};
 ghost use Rattle.aes.specs.Expansion.{subWord};
 ghost use Rattle.aes.specs.Cipher.{subBytes, shiftRows, mixed as mixedOf, mixColumns, addRoundKey};
+ghost use Rattle.aes.specs.Column.{mixedColumn};
 
 pub fn input(b: [u8; 16]) -> [[u8; 4]; 4]
     ensures { λ r. ⌜ r ≡ inputOf b ⌝ }
@@ -94,7 +95,7 @@ fn mixed(a: u8, b: u8, c: u8, d: u8) -> u8
 }
 
 fn mix_column(a: [u8; 4]) -> [u8; 4]
-    ensures { λ s. ⌜ s ≡ column (λ r. mixedOf (getD a r 0) (getD a ((r + 1) % 4) 0) (getD a ((r + 2) % 4) 0) (getD a ((r + 3) % 4) 0)) ⌝ }
+    ensures { λ s. ⌜ s ≡ mixedColumn a ⌝ }
 {
     let p = a[0];
     let q = a[1];

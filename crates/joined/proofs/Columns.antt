@@ -14,7 +14,7 @@ use Rattle.field.specs.Field.{product}
 use Rattle.field.specs.Substitution.{substitute}
 use Rattle.tables.specs.Joined.{joined}
 use Rattle.tables.proofs.Entries.{shares-at}
-use Rattle.joined.specs.Column.{mixedColumn}
+use Rattle.aes.specs.Column.{mixedColumn}
 
 -- the first of four to the end
 turn : (a b c d : ℕ) → bitXor (bitXor (bitXor a b) c) d ≡ bitXor (bitXor (bitXor b c) d) a

@@ -8,8 +8,8 @@ ghost use Rattle.field.specs.Substitution.{substitute};
 ghost use Rattle.tables.specs.Joined.{joined};
 ghost use Rattle.aes.specs.State.{word};
 ghost use Rattle.aes.specs.Cipher.{subBytes};
+ghost use Rattle.aes.specs.Column.{mixedColumn};
 ghost use Rattle.aes.specs.Expansion.{subWord};
-ghost use Rattle.joined.specs.Column.{mixedColumn};
 
 // The column of a round from the bytes a to d of its rows 0 to 3 and the word k of the key. The compiler keeps the order, and with
 // table 3 before table 2 it has a register for all that it needs.

@@ -14,7 +14,7 @@ use Rattle.aes.proofs.Keys.{Usable, usable}
 use Rattle.mode.specs.Masks.{IsCipher}
 use Rattle.mode.specs.Opening.{Opened, accepted, refused}
 use Rattle.passes.specs.Shown.{flag}
-use Rattle.passes.proofs.Cipher.{is-cipher}
+use Rattle.pairs.proofs.Cipher.{is-cipher}
 use Rattle.link.specs.Answers.{numberOf}
 use Rattle.link.specs.Checks.{Check, pass, stop, asAnswer}
 use Rattle.link.specs.Promises.{SealsBy, openedAs, OpensBy}

@@ -1,6 +1,4 @@
-pub mod Cipher
 pub mod Formatted
 pub mod Messages
 pub mod Rest
 pub mod Sealed
-pub mod Steps

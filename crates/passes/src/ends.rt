@@ -12,8 +12,8 @@ ghost use Rattle.aes.specs.Cipher.{cipher};
 ghost use Rattle.mode.specs.Masks.{third};
 ghost use Rattle.mode.specs.Message.{ending, endSum, lastLength, base, final};
 ghost use Rattle.mode.specs.Undoing.{unending, undoneSum};
-use crate::pairs::half;
-use crate::pairs::put_two;
+use pairs::half;
+use pairs::put_two;
 
 // Two blocks of the message m from place at on.
 fn seal_two(

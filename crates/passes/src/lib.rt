@@ -1,5 +1,5 @@
-// The passes of AES-OTR v3.1 over an expanded key: w is the flat array of its words, nr its round count, and table the byte
-// substitution, which every function is lent. In the contracts the cipher E is `cipher nr (now w)`.
+// The passes of AES-OTR v3.1 over an expanded key: w is the flat array of its words, nr its round count, and table the four joined
+// tables, which every function is lent. In the contracts the cipher E is `cipher nr (now w)`.
 ghost use mathlib.Core.Path.{_≡_};
 ghost use Prim.Native.Nat.{_+_, _-_, _≤_};
 ghost use lib.ListN.{length};
@@ -15,7 +15,6 @@ mod data;
 mod ends;
 mod message;
 mod nonce;
-mod pairs;
 mod parallel;
 mod serial;
 mod tag;

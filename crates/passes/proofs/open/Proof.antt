@@ -22,7 +22,7 @@ use Rattle.mode.specs.Undoing.{unbody, answer, found as foundOf}
 use Rattle.mode.proofs.Walk.{length-unbody}
 use Rattle.mode.proofs.Third.{otr-masks}
 use Rattle.passes.specs.Shown.{shown, flag}
-use Rattle.passes.proofs.Cipher.{is-cipher}
+use Rattle.pairs.proofs.Cipher.{is-cipher}
 use Rattle.passes.proofs.Sealed.{opened-by}
 use borrow.Author.Needs.{needs}
 use Rattle.passes.proofs.open.Statement.{statement}

@@ -13,7 +13,7 @@ use Rattle.mode.specs.Masks.{third}
 use Rattle.mode.specs.Message.{body, te}
 use Rattle.mode.specs.Sealing.{masks, added}
 use Rattle.mode.proofs.Third.{otr-masks, length-added}
-use Rattle.passes.proofs.Cipher.{is-cipher}
+use Rattle.pairs.proofs.Cipher.{is-cipher}
 use Rattle.passes.proofs.Sealed.{tagged}
 use borrow.Author.Needs.{needs}
 use Rattle.passes.proofs.seal.Statement.{statement}

@@ -12,7 +12,7 @@ use Rattle.mode.specs.Nonce.{format}
 use Rattle.mode.specs.Sealing.{firstMask, intoTag, dataTag}
 use Rattle.mode.proofs.Form.{is-parallel, is-serial}
 use Rattle.mode.proofs.Data.{first-q-with-data}
-use Rattle.passes.proofs.Cipher.{is-cipher}
+use Rattle.pairs.proofs.Cipher.{is-cipher}
 use borrow.Author.Needs.{needs}
 use Rattle.passes.proofs.seals_with.Statement.{statement}
 use Rattle.passes.proofs.seals_with.Tie as tie

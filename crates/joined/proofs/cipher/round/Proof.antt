@@ -9,7 +9,7 @@ use Rattle.lists.proofs.Four.{four}
 use Rattle.aes.specs.State.{word}
 use Rattle.aes.specs.Cipher.{addRoundKey, round}
 use Rattle.aes.specs.Expansion.{subWord}
-use Rattle.joined.specs.Column.{mixedColumn}
+use Rattle.aes.specs.Column.{mixedColumn}
 use Rattle.joined.proofs.cipher.round.Statement.{statement}
 use Rattle.joined.proofs.cipher.round.Tie as tie
 

@@ -3,7 +3,7 @@ use mathlib.Core.Path.{ap, _∙_}
 use borrow.Author.Needs.{needs}
 use Rattle.lists.specs.Xor.{xor}
 use Rattle.aes.specs.Expansion.{subWord}
-use Rattle.joined.specs.Column.{mixedColumn}
+use Rattle.aes.specs.Column.{mixedColumn}
 use Rattle.joined.proofs.column.round_column.Statement.{statement}
 use Rattle.joined.proofs.column.round_column.Tie as tie
 

@@ -10,7 +10,7 @@ use Rattle.aes.specs.Cipher.{cipher}
 use Rattle.block.specs.Block.{filled, pad}
 use Rattle.block.proofs.Blocks.{part-filled}
 use Rattle.mode.proofs.Data.{ta-none, ta-is}
-use Rattle.passes.proofs.Cipher.{is-cipher}
+use Rattle.pairs.proofs.Cipher.{is-cipher}
 use borrow.Author.Needs.{needs}
 use Rattle.passes.proofs.data.ta.Statement.{statement}
 use Rattle.passes.proofs.data.ta.Tie as tie

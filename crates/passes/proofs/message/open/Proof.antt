@@ -14,7 +14,7 @@ use Rattle.mode.specs.Message.{lastLength, sum, base, final, pairs}
 use Rattle.mode.specs.Undoing.{unending}
 use Rattle.mode.proofs.Counts.{pairs-within, rest-most}
 use Rattle.mode.proofs.Third.{third-masks}
-use Rattle.passes.proofs.Cipher.{is-cipher}
+use Rattle.pairs.proofs.Cipher.{is-cipher}
 use Rattle.passes.proofs.Messages.{undone-laid, te-opened}
 use borrow.Author.Needs.{needs}
 use Rattle.passes.proofs.message.open.Statement.{statement}

@@ -13,7 +13,7 @@ use Rattle.mode.specs.Masks.{doubles, doubled, third}
 use Rattle.mode.specs.Message.{lastLength, base, final, pairs, ending}
 use Rattle.mode.proofs.Counts.{pairs-within, rest-most}
 use Rattle.mode.proofs.Third.{third-masks}
-use Rattle.passes.proofs.Cipher.{is-cipher}
+use Rattle.pairs.proofs.Cipher.{is-cipher}
 use Rattle.passes.proofs.Messages.{sealed-laid, te-sealed}
 use borrow.Author.Needs.{needs}
 use Rattle.passes.proofs.message.seal.Statement.{statement}

@@ -9,7 +9,7 @@ use Rattle.block.specs.Block.{double}
 use Rattle.mode.specs.Masks.{doubles}
 use Rattle.mode.specs.Data.{dataSum}
 use Rattle.mode.proofs.Data.{dataSum-step}
-use Rattle.passes.proofs.Steps.{doubles-step}
+use Rattle.pairs.proofs.Steps.{doubles-step}
 use borrow.Author.Needs.{needs}
 use Rattle.passes.proofs.parallel.data_sum.Statement.{statement}
 use Rattle.passes.proofs.parallel.data_sum.Tie as tie

@@ -1,4 +1,4 @@
--- `passes::pairs::sum` meets its contract. The loop's invariant: the sum of i pairs. Assumes nothing.
+-- `pairs::sum` meets its contract. The loop's invariant: the sum of i pairs. Assumes nothing.
 use mathlib.Core.Path.{_≡_, ap, ap₂, _∙_}
 use Prim.Native.Nat.{ℕ, _-_, _≤_}
 use native.Mathlib.Omega.{arith}
@@ -6,8 +6,8 @@ use Rattle.lists.specs.Xor.{xor}
 use Rattle.mode.specs.Message.{sum}
 use Rattle.mode.proofs.Tag.{sum-step}
 use borrow.Author.Needs.{needs}
-use Rattle.passes.proofs.pairs.sum.Statement.{statement}
-use Rattle.passes.proofs.pairs.sum.Tie as tie
+use Rattle.pairs.proofs.sum.Statement.{statement}
+use Rattle.pairs.proofs.sum.Tie as tie
 
 abbrev Inv-loop : tie.InvT-loop
 Inv-loop m n s₀ i₀ s i = (i ≤ n) × (s ≡ sum i m)

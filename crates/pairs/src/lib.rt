@@ -1,4 +1,5 @@
-// The pairs of the message pass. One step serves both directions: opening calls it with the two masks exchanged.
+// The pairs of the message pass, and their checksum. One step serves both directions: opening calls it with the two masks exchanged. The
+// parameters are as in `passes`.
 ghost use mathlib.Core.Path.{_≡_};
 ghost use mathlib.Core.List.{_++_};
 ghost use Prim.Native.Nat.{_+_, _*_, _≤_};
@@ -164,22 +165,11 @@ pub fn pairs(
     let mut right = block::to_words(r);
     let mut i = 0;
     while i + 1 < n {
-        let next_left = block::double_words(left);
-        let next_right = block::double_words(right);
-        two_pairs(
-            table,
-            w,
-            nr,
-            left,
-            right,
-            next_left,
-            next_right,
-            src,
-            32 * i,
-            out,
-        );
-        let a = block::double_words(next_left);
-        let b = block::double_words(next_right);
+        let next_l = block::double_words(left);
+        let next_r = block::double_words(right);
+        two_pairs(table, w, nr, left, right, next_l, next_r, src, 32 * i, out);
+        let a = block::double_words(next_l);
+        let b = block::double_words(next_r);
         left = a;
         right = b;
         i += 2;

@@ -1,8 +1,8 @@
--- `passes::pairs::read_words` meets its contract. Assumes nothing.
+-- `pairs::read_words` meets its contract. Assumes nothing.
 use mathlib.Core.Path.{_∙_}
 use borrow.Author.Needs.{needs}
-use Rattle.passes.proofs.pairs.read_words.Statement.{statement}
-use Rattle.passes.proofs.pairs.read_words.Tie as tie
+use Rattle.pairs.proofs.read_words.Statement.{statement}
+use Rattle.pairs.proofs.read_words.Tie as tie
 
 returns : tie.Need-returns
 returns c = c .to-words .ensures ∙ c .before .read-block .ensures

@@ -1,11 +1,11 @@
--- `passes::pairs::half_words` meets its contract. Assumes nothing.
+-- `pairs::half_words` meets its contract. Assumes nothing.
 use mathlib.Core.Path.{ap, _∙_}
 use borrow.Author.Needs.{needs}
 use Rattle.lists.specs.Xor.{xor}
 use Rattle.aes.specs.Cipher.{cipher}
 use Rattle.block.specs.Wide.{bytesOf}
-use Rattle.passes.proofs.pairs.half_words.Statement.{statement}
-use Rattle.passes.proofs.pairs.half_words.Tie as tie
+use Rattle.pairs.proofs.half_words.Statement.{statement}
+use Rattle.pairs.proofs.half_words.Tie as tie
 
 returns : tie.Need-returns
 returns c =

@@ -1,4 +1,4 @@
--- `passes::pairs::pairs` meets its contract. The loop's invariant: i pairs are laid, and the masks are doubled i times. Assumes nothing.
+-- `pairs::pairs` meets its contract. The loop's invariant: i pairs are laid, and the masks are doubled i times. Assumes nothing.
 use mathlib.Core.Path.{_≡_, refl, ap, ap₂, _∙_}
 use mathlib.Core.List.{List}
 use Prim.Native.Nat.{ℕ, _+_, _-_, _*_, _≤_}
@@ -12,10 +12,10 @@ use Rattle.block.proofs.Words.{length-bytes}
 use Rattle.mode.specs.Masks.{doubles, doubled}
 use Rattle.mode.specs.Message.{pairs}
 use borrow.Author.Needs.{needs}
-use Rattle.passes.proofs.Cipher.{is-cipher}
-use Rattle.passes.proofs.Steps.{doubles-step, laid-more}
-use Rattle.passes.proofs.pairs.pairs.Statement.{statement}
-use Rattle.passes.proofs.pairs.pairs.Tie as tie
+use Rattle.pairs.proofs.Cipher.{is-cipher}
+use Rattle.pairs.proofs.Steps.{doubles-step, laid-more}
+use Rattle.pairs.proofs.pairs.Statement.{statement}
+use Rattle.pairs.proofs.pairs.Tie as tie
 
 abbrev Inv-loop : tie.InvT-loop
 Inv-loop table w nr src n out₀ left₀ right₀ i₀ out left right i =

@@ -1,10 +1,10 @@
--- `passes::pairs::half` meets its contract. Assumes nothing.
+-- `pairs::half` meets its contract. Assumes nothing.
 use mathlib.Core.Path.{ap, _∙_}
 use borrow.Author.Needs.{needs}
 use Rattle.lists.specs.Xor.{xor}
 use Rattle.aes.specs.Cipher.{cipher}
-use Rattle.passes.proofs.pairs.half.Statement.{statement}
-use Rattle.passes.proofs.pairs.half.Tie as tie
+use Rattle.pairs.proofs.half.Statement.{statement}
+use Rattle.pairs.proofs.half.Tie as tie
 
 returns : tie.Need-returns
 returns c =

@@ -1,4 +1,4 @@
--- `passes::pairs::put_two` meets its contract: two parts side by side are one. Assumes nothing.
+-- `pairs::put_two` meets its contract: two parts side by side are one. Assumes nothing.
 use mathlib.Core.Path.{_≡_, sym, ap, _∙_}
 use Prim.Native.Nat.{ℕ, _+_}
 use native.Mathlib.Omega.{arith}
@@ -7,8 +7,8 @@ use lib.Seq.{length-take-le}
 use Rattle.lists.specs.Lay.{lay}
 use Rattle.lists.proofs.Laid.{lay-lay}
 use borrow.Author.Needs.{needs}
-use Rattle.passes.proofs.pairs.put_two.Statement.{statement}
-use Rattle.passes.proofs.pairs.put_two.Tie as tie
+use Rattle.pairs.proofs.put_two.Statement.{statement}
+use Rattle.pairs.proofs.put_two.Tie as tie
 
 -- the second part has n bytes
 part-long : (c : tie.Start) → length (take (c .args .n) (c .args .t4)) ≡ c .args .n

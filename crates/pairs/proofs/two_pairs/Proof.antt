@@ -1,4 +1,4 @@
--- `passes::pairs::two_pairs` meets its contract: one pair, and the other behind it. Assumes nothing.
+-- `pairs::two_pairs` meets its contract: one pair, and the other behind it. Assumes nothing.
 use mathlib.Core.Path.{ap, ap₂, _∙_}
 use mathlib.Core.List.{List, _++_}
 use Prim.Native.Nat.{ℕ, _+_}
@@ -8,8 +8,8 @@ use Rattle.aes.specs.Cipher.{cipher}
 use Rattle.block.specs.Wide.{bytesOf}
 use Rattle.mode.specs.Message.{half, pair}
 use borrow.Author.Needs.{needs}
-use Rattle.passes.proofs.pairs.two_pairs.Statement.{statement}
-use Rattle.passes.proofs.pairs.two_pairs.Tie as tie
+use Rattle.pairs.proofs.two_pairs.Statement.{statement}
+use Rattle.pairs.proofs.two_pairs.Tie as tie
 
 abbrev start-of : tie.After-half-words4 → tie.Start
 start-of c = c .before .before .before .before .before .before .before .before .before .before

@@ -1,4 +1,4 @@
--- `passes::pairs::put_pair` meets its contract: two whole blocks side by side. Assumes nothing.
+-- `pairs::put_pair` meets its contract: two whole blocks side by side. Assumes nothing.
 use mathlib.Core.Path.{_≡_, ap, ap₂, _∙_}
 use mathlib.Core.List.{List, _++_}
 use Prim.Native.Nat.{ℕ}
@@ -7,8 +7,8 @@ use lib.ListN.{length}
 use lib.Seq.{take-all}
 use borrow.Author.Needs.{needs}
 use Rattle.lists.specs.Lay.{lay}
-use Rattle.passes.proofs.pairs.put_pair.Statement.{statement}
-use Rattle.passes.proofs.pairs.put_pair.Tie as tie
+use Rattle.pairs.proofs.put_pair.Statement.{statement}
+use Rattle.pairs.proofs.put_pair.Tie as tie
 
 returns : tie.Need-returns
 returns c =

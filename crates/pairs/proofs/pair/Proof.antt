@@ -1,4 +1,4 @@
--- `passes::pairs::pair` meets its contract: its two halves are put side by side. Assumes nothing.
+-- `pairs::pair` meets its contract: its two halves are put side by side. Assumes nothing.
 use mathlib.Core.Path.{ap, ap₂, _∙_}
 use mathlib.Core.List.{List, _++_}
 use Prim.Native.Nat.{ℕ}
@@ -7,8 +7,8 @@ use Rattle.aes.specs.Cipher.{cipher}
 use Rattle.block.specs.Wide.{bytesOf}
 use Rattle.mode.specs.Message.{half}
 use borrow.Author.Needs.{needs}
-use Rattle.passes.proofs.pairs.pair.Statement.{statement}
-use Rattle.passes.proofs.pairs.pair.Tie as tie
+use Rattle.pairs.proofs.pair.Statement.{statement}
+use Rattle.pairs.proofs.pair.Tie as tie
 
 returns : tie.Need-returns
 returns c =
