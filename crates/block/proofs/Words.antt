@@ -30,7 +30,7 @@ shift-big (suc n) x l h =
     ∙ sym (append-assoc (big n ((x * 2 + next) / 256)) ((x * 2 + next) % 256 ∷ []) (shift l))
 
 -- ---- a word of 64 bits
-abbrev top : ℕ
+abbrev pub top : ℕ
 top = 9223372036854775808
 
 top-bit : (x : ℕ) → x < top * 2 → getD (big 8 x) 0 0 / 128 ≡ x / top

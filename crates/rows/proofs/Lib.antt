@@ -1,4 +1,2 @@
 pub mod Agreement
 pub mod Expected
-pub mod Fips197
-pub mod Scope

@@ -55,12 +55,14 @@ loop-again c =
     let left-is = at-left .double-words .ensures ∙ ap double (h .inv .2 .0) ∙ doubles-step i L in
     let right-is = at-right .double-words2 .ensures ∙ ap double (h .inv .2 .1) ∙ doubles-step i R in
     let two = more (i + 1) (32 * i + 32) (32 * i + 48) _ _ _ (omega arith) (omega arith) (omega arith) (omega arith) left-is right-is one in
+    let left-twice : bytesOf (c .before .double-words3 .result) ≡ double (bytesOf (at-left .double-words .result)) = c .before .double-words3 .ensures in
+    let right-twice : bytesOf (c .double-words4 .result) ≡ double (bytesOf (at-right .double-words2 .result)) = c .double-words4 .ensures in
     let next : i + 1 + 1 ≡ i + 2 = omega arith in (
       omega arith,
       at-two .two-pairs .ensures ∙ two ∙ ap (λ (j : ℕ). lay 0 (pairs (cipher (v .nr) (v .w .now)) (doubled L R) j (v .src .now)) (v .out .now)) next,
       (
-        c .before .double-words3 .ensures ∙ ap double left-is ∙ doubles-step (i + 1) L ∙ ap (λ (j : ℕ). doubles j L) next,
-        c .double-words4 .ensures ∙ ap double right-is ∙ doubles-step (i + 1) R ∙ ap (λ (j : ℕ). doubles j R) next,
+        left-twice ∙ ap double left-is ∙ doubles-step (i + 1) L ∙ ap (λ (j : ℕ). doubles j L) next,
+        right-twice ∙ ap double right-is ∙ doubles-step (i + 1) R ∙ ap (λ (j : ℕ). doubles j R) next,
       ),
       at-two .two-pairs .kept .1 .1 .1 .1 .1 .1 .1 .1 .1 .0 ∙ h .inv .3,
     )

@@ -1,12 +1,16 @@
 -- `block::wide::double_words` meets its contract: formula (1) on two numbers. Assumes nothing.
-use mathlib.Core.Path.{sym, ap, ap₂, _∙_}
+use mathlib.Core.Path.{_≡_, sym, ap, ap₂, _∙_}
 use mathlib.Core.List.{_++_}
+use Prim.Native.Nat.{_*_, _/_, _%_}
+use lib.Bits.{bitXor}
 use mir.Syntax.{w64}
 use mir.Val.{Fits}
 use borrow.Author.Needs.{needs}
+use Rattle.lists.specs.Hex.{bytes as big}
+use Rattle.words.specs.Word.{little}
 use Rattle.block.specs.Block.{double}
 use Rattle.block.specs.Wide.{bytesOf}
-use Rattle.block.proofs.Words.{fits, double-big}
+use Rattle.block.proofs.Words.{top, fits, double-big}
 use Rattle.block.proofs.wide.double_words.Statement.{statement}
 use Rattle.block.proofs.wide.double_words.Tie as tie
 
@@ -26,7 +30,8 @@ returns c =
     let b = at-b .turned2 in
     let fits-a : Fits w64 (a .result) = search needs in
     let fits-b : Fits w64 (b .result) = search needs in
-    ap₂ _++_ (c .before .turned3 .ensures .1) (c .turned4 .ensures .1)
+    let low : little 8 (c .turned4 .result) ≡ big 8 (bitXor (b .result % top * 2) (a .result / top * 0x87)) = c .turned4 .ensures .1 in
+    ap₂ _++_ (c .before .turned3 .ensures .1) low
     ∙ sym (double-big (a .result) (b .result) (fits-a .fits) (fits-b .fits))
     ∙ ap double (ap₂ _++_ (a .ensures .0) (b .ensures .0))
 

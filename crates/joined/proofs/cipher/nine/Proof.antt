@@ -1,5 +1,5 @@
 -- `joined::cipher::nine` meets its contract. Assumes nothing.
-use mathlib.Core.Path.{ap, _∙_}
+use mathlib.Core.Path.{_≡_, ap, _∙_}
 use borrow.Author.Needs.{needs}
 use Rattle.aes.specs.Cipher.{round, rounds}
 use Rattle.joined.proofs.cipher.nine.Statement.{statement}
@@ -9,7 +9,8 @@ returns : tie.Need-returns
 unfolding rounds
 returns c =
     let w = c .before .before .before .before .before .before .before .before .before .args .w .now in
-    c .round9 .ensures
+    let ninth : c .round9 .result ≡ round w 9 (c .before .round8 .result) = c .round9 .ensures in
+    ninth
     ∙ ap (round w 9)
     (c .before .round8 .ensures
     ∙ ap (round w 8)
