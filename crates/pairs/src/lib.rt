@@ -1,5 +1,5 @@
-// The pairs of the message pass, and their checksum. One step serves both directions: opening calls it with the two masks exchanged. The
-// parameters are as in `passes`.
+// The pairs of the message pass, and their checksum. One step serves both directions: opening calls it with the two masks exchanged.
+// w is the flat array of an expanded key, nr its round count, and table the four joined tables.
 ghost use mathlib.Core.Path.{_≡_};
 ghost use mathlib.Core.List.{_++_};
 ghost use Prim.Native.Nat.{_+_, _*_, _≤_};
@@ -56,6 +56,7 @@ pub fn put_two(out: &mut [u8], at: usize, a: [u8; 16], b: [u8; 16], n: usize)
     lists::lay(out, at + 16, &b[..n]);
 }
 
+// The whole block of src at place at.
 fn read_words(src: &[u8], at: usize) -> [u64; 2]
     requires { ⌜ at + 16 ≤ length (now src) ⌝ }
     ensures { λ a. ⌜ bytesOf a ≡ blockOf (now (src .entry)) at ⌝ }
@@ -63,6 +64,7 @@ fn read_words(src: &[u8], at: usize) -> [u64; 2]
     block::to_words(block::read_block(src, at))
 }
 
+// The blocks of a pair, into out from place at on.
 fn put_pair(out: &mut [u8], at: usize, first: [u64; 2], second: [u64; 2])
     requires { ⌜ at + 32 ≤ length (now out) ⌝ }
     ensures { λ _. ⌜ now (out .exit) ≡ lay at (bytesOf first ++ bytesOf second) (now (out .entry)) ⌝ }
@@ -99,8 +101,8 @@ fn pair(
     put_pair(out, at, first, second);
 }
 
-// The same, and the pair behind it with the masks next_l and next_r. No cipher waits for what the one before it gives, and a processor
-// begins the one before the other has ended.
+// The same, and the pair behind it with the masks next_l and next_r. No cipher waits for what the one before it gives, so that a
+// processor can begin the next before that one has ended.
 fn two_pairs(
     table: &[u32; 1024],
     w: &[u8; 240],

@@ -6,7 +6,7 @@ use native.Mathlib.Omega.{arith}
 use Rattle.lists.specs.Lay.{lay}
 use Rattle.aes.specs.Cipher.{cipher}
 use Rattle.block.specs.Wide.{bytesOf}
-use Rattle.mode.specs.Message.{half, pair}
+use Rattle.mode.specs.Message.{half}
 use borrow.Author.Needs.{needs}
 use Rattle.pairs.proofs.two_pairs.Statement.{statement}
 use Rattle.pairs.proofs.two_pairs.Tie as tie
