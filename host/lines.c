@@ -124,11 +124,12 @@ static size_t read_request(char *line, struct call *call)
     return room;
 }
 
-/* `NUMBER LENGTH OUTPUT`. The length follows from the number, and is not looked at. */
+/* `NUMBER LENGTH RUNS OUTPUT`. The number is the answer: length and runs are not looked at. */
 static void read_answer(char *line, struct call *call, size_t room)
 {
     static uint8_t bytes[LONGEST];
     size_t number = decimal(&line);
+    decimal(&line);
     decimal(&line);
     call->after = string(&line, bytes);
     if (line != NULL || number > SHAFTLADDER_BAD_FORM || call->after.len != room) {

@@ -1,5 +1,7 @@
-//! The forward cipher of FIPS 197, for keys of 16, 24 and 32 bytes.
+//! The forward cipher of FIPS 197, for keys of 16, 24 and 32 bytes. It counts how many
+//! times it ran (wish 6 of 02).
 
+use std::cell::Cell;
 use std::sync::OnceLock;
 
 use crate::block::{xor, Block, ZERO};
@@ -8,10 +10,11 @@ type Word = [u8; 4];
 
 pub struct Aes {
     round_keys: Vec<Block>,
+    runs: Cell<usize>,
 }
 
 impl Aes {
-    /// None where the key has not 16, 24 or 32 bytes.
+    /// None where the key has not 16, 24 or 32 bytes. The key expansion is no run.
     pub fn new(key: &[u8]) -> Option<Aes> {
         let rounds = match key.len() {
             16 => 10,
@@ -21,11 +24,15 @@ impl Aes {
         };
         let words = expand_key(key, rounds);
         let round_keys = words.chunks(4).map(join).collect();
-        Some(Aes { round_keys })
+        Some(Aes {
+            round_keys,
+            runs: Cell::new(0),
+        })
     }
 
     /// Byte r + 4c of a block is row r, column c of the state.
     pub fn cipher(&self, input: &Block) -> Block {
+        self.runs.set(self.runs.get() + 1);
         let last = self.round_keys.len() - 1;
         let mut state = xor(input, &self.round_keys[0]);
         for round_key in &self.round_keys[1..last] {
@@ -34,6 +41,11 @@ impl Aes {
         }
         state = shift_rows(&sub_bytes(&state));
         xor(&state, &self.round_keys[last])
+    }
+
+    /// How many times `cipher` ran with this key so far.
+    pub fn runs(&self) -> usize {
+        self.runs.get()
     }
 }
 

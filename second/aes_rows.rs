@@ -16,7 +16,7 @@ pub fn command() -> String {
     .concat()
 }
 
-/// `FORM KEYLEN MESSAGELEN DATALEN K T HEX` and the end of the line.
+/// `FORM KEYLEN MESSAGELEN DATALEN K T RUNS HEX` and the end of the line.
 fn line(form: Form, key_bytes: usize, message: usize, data: usize) -> String {
     let aes = aes_by_rule(key_bytes);
     let row = Row {

@@ -1,6 +1,7 @@
 //! The call level: 01, "Numbers a call may carry" and "What comes back", with wish 1 of 02:
 //! each call names its form, and one that is neither parallel (0) nor serial (1) is refused
-//! with 8 before all else; and with wish 5: a nonce has 1 to 15 bytes.
+//! with 8 before all else; with wish 5: a nonce has 1 to 15 bytes; and with wish 6: an answer
+//! reports how many times the cipher ran. Each call has a cipher of its own, which counts.
 
 use crate::aes::Aes;
 use crate::form::Form;
@@ -12,6 +13,7 @@ pub const MESSAGE_MAX: usize = 16_384;
 pub struct Answer {
     pub number: u8,
     pub length: usize,
+    pub runs: usize,
 }
 
 pub fn seal(
@@ -39,7 +41,7 @@ pub fn seal(
         return refused(6);
     }
     let (c, tag) = otr_e(form, &|b| aes.cipher(b), t, nonce, data, message);
-    done(&[c, tag].concat(), output)
+    done(&[c, tag].concat(), aes.runs(), output)
 }
 
 pub fn open(
@@ -69,10 +71,13 @@ pub fn open(
     }
     let (c, tag) = sealed.split_at(message_bytes);
     match otr_d(form, &|b| aes.cipher(b), nonce, data, c, tag) {
-        Some(message) => done(&message, output),
+        Some(message) => done(&message, aes.runs(), output),
         None => {
             output[..message_bytes].fill(0);
-            refused(7)
+            Answer {
+                runs: aes.runs(),
+                ..refused(7)
+            }
         }
     }
 }
@@ -89,14 +94,20 @@ fn refusal_2_to_4(nonce: &[u8], data: &[u8], t: usize) -> Option<u8> {
     }
 }
 
+/// No cipher has run by then. Only 7 comes after the passes: it puts its runs in.
 fn refused(number: u8) -> Answer {
-    Answer { number, length: 0 }
+    Answer {
+        number,
+        length: 0,
+        runs: 0,
+    }
 }
 
-fn done(result: &[u8], output: &mut [u8]) -> Answer {
+fn done(result: &[u8], runs: usize, output: &mut [u8]) -> Answer {
     output[..result.len()].copy_from_slice(result);
     Answer {
         number: 0,
         length: result.len(),
+        runs,
     }
 }

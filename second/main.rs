@@ -1,6 +1,6 @@
 //! Shaftladder's independent second program: AES-OTR v3.1 with parallel and serial ADP,
-//! written from the paper (000) and the exact rules (01, and wishes 1 and 5 of 02) alone.
-//! See README.md.
+//! written from the paper (000) and the exact rules (01, and wishes 1, 5 and 6 of 02)
+//! alone. See README.md.
 
 mod aes;
 mod aes_rows;
@@ -22,6 +22,8 @@ mod request;
 mod requests;
 mod rows;
 mod rules;
+#[cfg(test)]
+mod runs_tests;
 mod seam_lengths;
 mod seam_requests;
 mod seams;

@@ -37,6 +37,15 @@ impl<'a> Core<'a> {
         (self.e)(&xor(&self.l_sharp, x))
     }
 
+    /// Line 16: msb_|x|(E(L)) xor x, where E(L) is E(L xor zero). Where x has no byte there is
+    /// nothing to mask, and E does not run (wish 6 of 02).
+    fn xor_first_of_e_l(&self, x: &[u8]) -> Vec<u8> {
+        if x.is_empty() {
+            return Vec::new();
+        }
+        xor_first(&self.e_l(&ZERO), x)
+    }
+
     fn add_to_sigma(&mut self, x: &Block) {
         self.sigma = xor(&self.sigma, x);
     }
@@ -101,9 +110,9 @@ fn ef_last_two(core: &mut Core, m_before: &Block, m_last: &[u8]) -> Vec<u8> {
     [&c_before[..], &c_last[..]].concat()
 }
 
-/// EF, lines 16 and 17; E(L) is E(L xor zero).
+/// EF, lines 16 and 17.
 fn ef_last_one(core: &mut Core, m_last: &[u8]) -> Vec<u8> {
-    let c_last = xor_first(&core.e_l(&ZERO), m_last);
+    let c_last = core.xor_first_of_e_l(m_last);
     core.add_to_sigma(&pad(m_last));
     c_last
 }
@@ -150,9 +159,9 @@ fn df_last_two(core: &mut Core, c_before: &Block, c_last: &[u8]) -> Vec<u8> {
     [&m_before[..], &m_last[..]].concat()
 }
 
-/// DF, lines 16 and 17; E(L) is E(L xor zero).
+/// DF, lines 16 and 17.
 fn df_last_one(core: &mut Core, c_last: &[u8]) -> Vec<u8> {
-    let m_last = xor_first(&core.e_l(&ZERO), c_last);
+    let m_last = core.xor_first_of_e_l(c_last);
     core.add_to_sigma(&pad(&m_last));
     m_last
 }

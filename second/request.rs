@@ -72,13 +72,14 @@ impl Request {
         format!("{name} {} {fields} {} {}\n", self.form, self.t, self.room)
     }
 
-    /// `NUMBER LENGTH OUTPUT` and the end of the line.
+    /// `NUMBER LENGTH RUNS OUTPUT` and the end of the line.
     pub fn answer_line(&self) -> String {
         let (answer, output) = self.call();
         format!(
-            "{} {} {}\n",
+            "{} {} {} {}\n",
             answer.number,
             answer.length,
+            answer.runs,
             hex::field(&output)
         )
     }

@@ -1,6 +1,9 @@
-//! Rows of sealed bytes by the fixed rules, over a given cipher in E's place.
+//! Rows of sealed bytes by the fixed rules, over a given cipher in E's place, with how many
+//! times that ran.
 
-use crate::block::Cipher;
+use std::cell::Cell;
+
+use crate::block::{Block, Cipher};
 use crate::form::Form;
 use crate::hex;
 use crate::otr::otr_e;
@@ -20,14 +23,25 @@ impl Row {
         self.form as usize
     }
 
-    /// `MESSAGELEN DATALEN K T HEX` and the end of the line.
+    /// `MESSAGELEN DATALEN K T RUNS HEX` and the end of the line.
     pub fn lengths_and_sealed(&self, e: Cipher) -> String {
+        let runs = Cell::new(0);
+        let counted = |b: &Block| {
+            runs.set(runs.get() + 1);
+            e(b)
+        };
         let (n, a) = (rules::nonce(self.k), rules::data(self.data));
-        let (c, tag) = otr_e(self.form, e, self.t, &n, &a, &rules::message(self.message));
+        let m = rules::message(self.message);
+        let (c, tag) = otr_e(self.form, &counted, self.t, &n, &a, &m);
         let sealed = hex::encode(&[c, tag].concat());
         format!(
-            "{} {} {} {} {}\n",
-            self.message, self.data, self.k, self.t, sealed
+            "{} {} {} {} {} {}\n",
+            self.message,
+            self.data,
+            self.k,
+            self.t,
+            runs.get(),
+            sealed
         )
     }
 }

@@ -15,7 +15,7 @@ const DATA: [usize; 8] = [1, 15, 16, 17, 31, 32, 33, DATA_MAX];
 
 pub fn command(file_requests: &str, file_answers: &str) -> Result<String, Failure> {
     let mut table = format!(
-        "form  length  blocks  last   side  data  nonce   t  {:<32}\n",
+        "form  length  blocks  last   side  data  nonce   t  runs  {:<32}\n",
         "tag"
     );
     let mut requests = Vec::new();
@@ -97,7 +97,7 @@ fn line(sealing: &Request, tag: &str) -> String {
     let m = blocks.len();
     let full = blocks[m - 1].len() == BLOCK_BYTES;
     format!(
-        "{:>4}  {:>6}  {:>6}  {:<5}  {:<4}  {:>4}  {:>5}  {:>2}  {:<32}\n",
+        "{:>4}  {:>6}  {:>6}  {:<5}  {:<4}  {:>4}  {:>5}  {:>2}  {:>4}  {:<32}\n",
         sealing.form,
         sealing.body.len(),
         m,
@@ -106,6 +106,7 @@ fn line(sealing: &Request, tag: &str) -> String {
         sealing.data.len(),
         sealing.nonce.len(),
         sealing.t,
+        sealing.call().0.runs,
         tag
     )
 }

@@ -33,7 +33,7 @@ pub fn command() -> String {
     rows().iter().map(line).collect()
 }
 
-/// `FORM MESSAGELEN DATALEN K T HEX` and the end of the line.
+/// `FORM MESSAGELEN DATALEN K T RUNS HEX` and the end of the line.
 fn line(row: &Row) -> String {
     let rest = row.lengths_and_sealed(&stand_in);
     format!("{} {}", row.form_number(), rest)

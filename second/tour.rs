@@ -10,9 +10,10 @@ use crate::rules;
 pub fn command(file_requests: &str, file_answers: &str) -> Result<String, Failure> {
     let mut tour = Tour::default();
     let sealing = sealing();
-    tour.call("0: sealed. The message `three steps west`, then 16 bytes of tag; what the call left alone holds a5.", &sealing);
+    tour.call("0: sealed. The message `three steps west`, then 16 bytes of tag; what the call left alone holds a5. The cipher ran 5 times.", &sealing);
     let opening = opening(&sealing);
     tour.call("0: opened.", &opening);
+    empty_messages(&mut tour, &sealing);
     let longest = Request {
         nonce: rules::nonce(15),
         t: 15,
@@ -48,6 +49,26 @@ fn opening(sealing: &Request) -> Request {
         room: sealing.body.len() + 4,
         ..sealing.opening().expect("the tour's sealing is done")
     }
+}
+
+fn empty_messages(tour: &mut Tour, sealing: &Request) {
+    let with_data = Request {
+        body: Vec::new(),
+        room: sealing.room - sealing.body.len(),
+        ..sealing.clone()
+    };
+    let without_data = Request {
+        data: Vec::new(),
+        ..with_data.clone()
+    };
+    tour.call(
+        "0: an empty message without data runs the cipher twice: for the nonce block and for the tag.",
+        &without_data,
+    );
+    tour.call(
+        "0: an empty message with data of one block runs it 4 times: twice more, for the data.",
+        &with_data,
+    );
 }
 
 fn serial(tour: &mut Tour, sealing: &Request) {
@@ -93,7 +114,7 @@ fn refusals(tour: &mut Tour, sealing: &Request, opening: &Request) {
         request.room = 31;
     });
     tour.changed(
-        "7: one bit changed. Where the message would stand there are zeros.",
+        "7: one bit changed. Where the message would stand there are zeros; the cipher's 5 runs are reported here too.",
         opening,
         |request| request.body[0] ^= 1,
     );

@@ -49,7 +49,7 @@ Good n (Asked r) = Sound n r
 Good n PassedOver = Unit
 Good n BadLine = Unit
 
--- room for the largest output buffer, and for the longest answer line: two digits a byte, two numbers of at most 20 digits, and four
+-- room for the largest output buffer, and for the longest answer line: two digits a byte, three numbers of at most 20 digits, and five
 -- bytes more
 abbrev pub Enough : ℕ → ℕ → Type 0
-Enough output text = (20480 ≤ output) × (41004 ≤ text)
+Enough output text = (20480 ≤ output) × (41025 ≤ text)

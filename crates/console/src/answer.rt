@@ -4,14 +4,13 @@ ghost use Prim.Native.Nat.{_+_, _*_, _≤_, _<_};
 ghost use lib.ListN.{length};
 use libc::STDOUT_FILENO;
 
-// Writes `NUMBER LENGTH OUTPUT`, and says whether it could be written.
+// Writes `NUMBER LENGTH RUNS OUTPUT`, and says whether it could be written.
 pub fn write_answer(text: &mut [u8], answer: link::Answer, output: &[u8]) -> bool
-    requires { ⌜ 2 * length (now output) + 44 ≤ length (now text) ⌝ }
+    requires { ⌜ 2 * length (now output) + 65 ≤ length (now text) ⌝ }
 {
-    let at = put_number(text, 0, link::number(answer) as u64);
-    let at = put(text, at, b" ");
-    let at = put_number(text, at, link::length(answer) as u64);
-    let at = put(text, at, b" ");
+    let at = put_field(text, 0, link::number(answer) as u64);
+    let at = put_field(text, at, link::length(answer) as u64);
+    let at = put_field(text, at, link::runs(answer) as u64);
     let at = put_hex(text, at, output);
     let end = put(text, at, b"\n");
     io::write_all(STDOUT_FILENO, &text[0..end])
@@ -48,6 +47,15 @@ fn put_number(text: &mut [u8], at: usize, number: u64) -> usize
     let mut digits = [0u8; 20];
     let count = io::decimal(number, &mut digits);
     put(text, at, &digits[0..count])
+}
+
+// The same with a space behind them.
+fn put_field(text: &mut [u8], at: usize, number: u64) -> usize
+    requires { ⌜ at + 21 ≤ length (now text) ⌝ }
+    ensures { λ r. ⌜ r ≤ at + 21 ⌝ }
+{
+    let at = put_number(text, at, number);
+    put(text, at, b" ")
 }
 
 // The same of bytes as hexadecimal digits, two a byte, or `-` for no bytes.

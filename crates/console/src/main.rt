@@ -5,8 +5,8 @@
 //
 // One space stands between two fields. The four strings are hexadecimal, two digits of either case a byte, or `-` for no bytes.
 // FORM, TAG and ROOM are decimal, up to 65535, 65535 and 20480; 0 is the parallel form, 1 the serial one. The output buffer has ROOM
-// bytes, all a5 before the call. The answer is the line `NUMBER LENGTH OUTPUT`, where OUTPUT is the whole buffer after the call, in
-// hexadecimal.
+// bytes, all a5 before the call. The answer is the line `NUMBER LENGTH RUNS OUTPUT`: RUNS says how many times the cipher
+// ran, and OUTPUT is the whole buffer after the call, in hexadecimal.
 //
 // A line has up to 65000 bytes, and ends at LF, CR LF or the input's end. One that is empty or begins with `#` is passed over. Any
 // other line that is no request, and any longer line, is answered by `bad line N`, where N counts all lines from 1.

@@ -1,4 +1,4 @@
--- The promises decide: any two results that one of them allows for the same input are equal, answer and buffer, for every input.
+-- The promises decide: any two results that one of them allows for the same input are equal, answer with its runs and buffer, for every input.
 -- Assumes nothing.
 use mathlib.Core.Path.{_≡_, refl, sym, ap, _∙_}
 use mathlib.Core.List.{List}
@@ -11,7 +11,7 @@ use Rattle.mode.specs.Opening.{Opened, Allowed}
 use Rattle.mode.proofs.Third.{otr-one-answer}
 use Rattle.passes.specs.Shown.{shown}
 use Rattle.link.specs.Checks.{Check, pass, stop, sealCheck, openCheck}
-use Rattle.link.specs.Promises.{sealing, SealsBy, Seals, openedAs, OpensBy, Opens}
+use Rattle.link.specs.Promises.{sealing, sealRuns, openRuns, SealsBy, Seals, openedAs, OpensBy, Opens}
 use Rattle.link.specs.declared.answer.Answer.{Answer}
 use Rattle.link.proofs.Verdicts.{Verdict, passes, stops, Called, open-verdict}
 use Rattle.link.proofs.Entries.{aes-cipher}
@@ -20,28 +20,28 @@ use Rattle.link.proofs.Entries.{aes-cipher}
 pub pass-or-stop : (n : ℕ) (x : Answer) → pass n ≡ stop x → ⊥
 pass-or-stop n x e = let z : _≡_ {A = ℕ} 0 1 = cc in omega arith
 
-by-seal : (c : Check) (bytes out : List ℕ) (r r′ : Answer) (a a′ : List ℕ) → SealsBy c bytes out r a → SealsBy c bytes out r′ a′ → (r ≡ r′) × (a ≡ a′)
-by-seal (pass n) bytes out r r′ a a′ p q = (p .0 ∙ sym (q .0), p .1 ∙ sym (q .1))
-by-seal (stop x) bytes out r r′ a a′ p q = (p .0 ∙ sym (q .0), p .1 ∙ sym (q .1))
+by-seal : (c : Check) (k : ℕ) (bytes out : List ℕ) (r r′ : Answer) (a a′ : List ℕ) → SealsBy c k bytes out r a → SealsBy c k bytes out r′ a′ → (r ≡ r′) × (a ≡ a′)
+by-seal (pass n) k bytes out r r′ a a′ p q = (p .0 ∙ sym (q .0), p .1 ∙ sym (q .1))
+by-seal (stop x) k bytes out r r′ a a′ p q = (p .0 ∙ sym (q .0), p .1 ∙ sym (q .1))
 
 pub seals-decided : (form : ℕ) (key nonce ad m : List ℕ) (t : ℕ) (out : List ℕ) (r r′ : Answer) (a a′ : List ℕ)
     → Seals form key nonce ad m t out r a → Seals form key nonce ad m t out r′ a′ → (r ≡ r′) × (a ≡ a′)
 unfolding Seals
 seals-decided form key nonce ad m t out =
-    by-seal (sealCheck form (length key) (length nonce) t (length ad) (length m) (length out)) (sealing form key nonce ad t m) out
+    by-seal (sealCheck form (length key) (length nonce) t (length ad) (length m) (length out)) (sealRuns form key nonce ad t m) (sealing form key nonce ad t m) out
 
 -- where sealing allows one answer alone
-by-open : (c : Check) (seal : List ℕ → List ℕ) (s out : List ℕ) → ((n : ℕ) → c ≡ pass n → (o p : Opened) → Allowed seal s o → Allowed seal s p → o ≡ p)
-    → (r r′ : Answer) (a a′ : List ℕ) → OpensBy c seal s out r a → OpensBy c seal s out r′ a′ → (r ≡ r′) × (a ≡ a′)
-by-open (pass n) seal s out one r r′ a a′ p q =
+by-open : (c : Check) (k : ℕ) (seal : List ℕ → List ℕ) (s out : List ℕ) → ((n : ℕ) → c ≡ pass n → (o p : Opened) → Allowed seal s o → Allowed seal s p → o ≡ p)
+    → (r r′ : Answer) (a a′ : List ℕ) → OpensBy c k seal s out r a → OpensBy c k seal s out r′ a′ → (r ≡ r′) × (a ≡ a′)
+by-open (pass n) k seal s out one r r′ a a′ p q =
     let same = one n refl (p .0) (q .0) (p .1) (q .1) in
-    (p .2 ∙ ap (openedAs n) same ∙ sym (q .2), p .3 ∙ ap (λ (o : Opened). shown o n out) same ∙ sym (q .3))
-by-open (stop x) seal s out one r r′ a a′ p q = (p .0 ∙ sym (q .0), p .1 ∙ sym (q .1))
+    (p .2 ∙ ap (openedAs n k) same ∙ sym (q .2), p .3 ∙ ap (λ (o : Opened). shown o n out) same ∙ sym (q .3))
+by-open (stop x) k seal s out one r r′ a a′ p q = (p .0 ∙ sym (q .0), p .1 ∙ sym (q .1))
 
 pub opens-decided : (form : ℕ) (key nonce ad s : List ℕ) (t : ℕ) (out : List ℕ) (r r′ : Answer) (a a′ : List ℕ)
     → Opens form key nonce ad s t out r a → Opens form key nonce ad s t out r′ a′ → (r ≡ r′) × (a ≡ a′)
 unfolding Opens
-opens-decided form key nonce ad s t out = by-open checks (sealing form key nonce ad t) s out one
+opens-decided form key nonce ad s t out = by-open checks (openRuns form key nonce ad t s) (sealing form key nonce ad t) s out one
   where
     checks : Check
     checks = openCheck form (length key) (length nonce) t (length ad) (length s) (length out)

@@ -14,10 +14,10 @@ use Rattle.lists.specs.Zeros.{zeros}
 use Rattle.mode.specs.Opening.{accepted, refused}
 use Rattle.link.specs.Answers.{numberOf, lengthOf}
 use Rattle.link.specs.Checks.{Check, pass, stop, from-to, unless, callCheck, sealCheck, openCheck, asAnswer}
-use Rattle.link.specs.Promises.{sealing, SealsBy, Seals, OpensBy, Opens}
+use Rattle.link.specs.Promises.{sealing, sealRuns, openRuns, SealsBy, Seals, OpensBy, Opens}
 use Rattle.link.specs.declared.answer.Answer.{Answer}
 use Rattle.link.specs.declared.answer.Answer.the-variants.{Key, Nonce, Tag, Data, Length, Room, Form}
-use Rattle.link.proofs.Answers.{Answered, done, refusal, answered}
+use Rattle.link.proofs.Answers.{Answered, done, forged, refusal, answered}
 use Rattle.link.proofs.Verdicts.{Verdict, passes, stops, Called, open-verdict}
 use Rattle.demands.specs.Calls.{firstFailing, sealChecks, openChecks}
 use Rattle.demands.proofs.Decided.{pass-or-stop}
@@ -45,30 +45,43 @@ not-first k [] h e = h (sym e)
 not-first k ((n, true) ∷ checks) h e = not-first k checks (h .1) e
 not-first k ((n, false) ∷ checks) h e = h .0 e
 
+never-7 : (a b c d e f g : Bool) → firstFailing ((8, a) ∷ (1, b) ∷ (2, c) ∷ (3, d) ∷ (4, e) ∷ (5, f) ∷ (6, g) ∷ []) ≡ 7 → ⊥
+never-7 a b c d e f g =
+    not-first 7 ((8, a) ∷ (1, b) ∷ (2, c) ∷ (3, d) ∷ (4, e) ∷ (5, f) ∷ (6, g) ∷ [])
+    (λ z. omega arith, (λ z. omega arith, (λ z. omega arith, (λ z. omega arith, (λ z. omega arith, (λ z. omega arith, (λ z. omega arith, (λ z. omega arith))))))))
+
 -- a refusal has length 0
 refusal-length : (r : Answer) → (numberOf r ≡ 0 → ⊥) → lengthOf r ≡ 0
 refusal-length r z = go (answered r)
   where
     go : Answered r → lengthOf r ≡ 0
-    go (done n e) = absurd (z (ap numberOf e))
-    go (refusal most none stands) = none
+    go (done n k e) = absurd (z (ap numberOf e))
+    go (forged k e) = ap lengthOf e
+    go (refusal most none runs stands) = none
 
 -- ---- sealing
-by-seal : (c : Check) (bytes out : List ℕ) (r : Answer) (after : List ℕ) → SealsBy c bytes out r after
+by-seal : (c : Check) (k : ℕ) (bytes out : List ℕ) (r : Answer) (after : List ℕ) → SealsBy c k bytes out r after
     → (numberOf r ≡ numberOf (asAnswer c)) × ((numberOf r ≡ 0 → ⊥) → (lengthOf r ≡ 0) × (after ≡ out))
-by-seal (pass n) bytes out r after p = (ap numberOf (p .0), λ z. absurd (z (ap numberOf (p .0))))
-by-seal (stop x) bytes out r after p = (ap numberOf (p .0), λ z. (refusal-length r z, p .1))
+by-seal (pass n) k bytes out r after p = (ap numberOf (p .0), λ z. absurd (z (ap numberOf (p .0))))
+by-seal (stop x) k bytes out r after p = (ap numberOf (p .0), λ z. (refusal-length r z, p .1))
 
 pub sealing-answers : (form : ℕ) (key nonce ad m : List ℕ) (t : ℕ) (out : List ℕ) (r : Answer) (after : List ℕ) → Seals form key nonce ad m t out r after
     → (numberOf r ≡ firstFailing (sealChecks form key nonce ad m t out)) × ((numberOf r ≡ 0 → ⊥) → (lengthOf r ≡ 0) × (after ≡ out))
 unfolding Seals sealCheck callCheck
 sealing-answers form key nonce ad m t out r after p =
-    let q = by-seal (sealCheck form (length key) (length nonce) t (length ad) (length m) (length out)) (sealing form key nonce ad t m) out r after p in (
+    let q = by-seal (sealCheck form (length key) (length nonce) t (length ad) (length m) (length out)) (sealRuns form key nonce ad t m) (sealing form key nonce ad t m) out r after p in (
       q .0
           ∙ number-of (leb form 1) (eqb (length key) 16 || (eqb (length key) 24 || eqb (length key) 32)) (from-to 1 15 (length nonce)) (from-to 4 16 t) (leb (length ad) 4096)
           (leb (length m) 16384) (leb (length m + t) (length out)) (length m + t),
       q .1,
     )
+
+-- sealing does not answer 7
+pub sealing-not-7 : (form : ℕ) (key nonce ad m : List ℕ) (t : ℕ) (out : List ℕ) (r : Answer) (after : List ℕ) → Seals form key nonce ad m t out r after
+    → numberOf r ≡ 7 → ⊥
+sealing-not-7 form key nonce ad m t out r after p h =
+    never-7 (leb form 1) (eqb (length key) 16 || (eqb (length key) 24 || eqb (length key) 32)) (from-to 1 15 (length nonce)) (from-to 4 16 t) (leb (length ad) 4096)
+    (leb (length m) 16384) (leb (length m + t) (length out)) (sym (sealing-answers form key nonce ad m t out r after p .0) ∙ h)
 
 -- ---- opening
 -- what an opening comes back with, where i is the number of the first failing check and n that of message bytes
@@ -80,22 +93,22 @@ pub record Answers (i n : ℕ) (out : List ℕ) (r : Answer) (after : List ℕ) 
   -- 7 leaves zeros over the message's bytes, and the rest as it was
   pub forged : numberOf r ≡ 7 → (lengthOf r ≡ 0) × (after ≡ lay 0 (zeros n) out)
 
-by-open : (c : Check) (n : ℕ) (seal : List ℕ → List ℕ) (s out : List ℕ) (r : Answer) (after : List ℕ)
+by-open : (c : Check) (n k : ℕ) (seal : List ℕ → List ℕ) (s out : List ℕ) (r : Answer) (after : List ℕ)
     → (numberOf (asAnswer c) ≡ 7 → ⊥) → ((i : ℕ) → c ≡ pass i → i ≡ n) → ((x : Answer) → c ≡ stop x → numberOf x ≡ 0 → ⊥)
-    → OpensBy c seal s out r after → Answers (numberOf (asAnswer c)) n out r after
-by-open (pass i) n seal s out r after not7 at never (accepted m, q, h, e) =
+    → OpensBy c k seal s out r after → Answers (numberOf (asAnswer c)) n out r after
+by-open (pass i) n k seal s out r after not7 at never (accepted m, q, h, e) =
     record {
       stopped = λ z. absurd (z refl);
       through = λ z. inl (ap numberOf h);
-      forged = λ z. absurd (let k : numberOf r ≡ 0 = ap numberOf h in omega arith);
+      forged = λ z. absurd (let done-is : numberOf r ≡ 0 = ap numberOf h in omega arith);
     }
-by-open (pass i) n seal s out r after not7 at never (refused, q, h, e) =
+by-open (pass i) n k seal s out r after not7 at never (refused, q, h, e) =
     record {
       stopped = λ z. absurd (z refl);
       through = λ z. inr (ap numberOf h);
-      forged = λ z. (ap lengthOf h, e ∙ ap (λ (k : ℕ). lay 0 (zeros k) out) (at i refl));
+      forged = λ z. (ap lengthOf h, e ∙ ap (λ (j : ℕ). lay 0 (zeros j) out) (at i refl));
     }
-by-open (stop x) n seal s out r after not7 at never p =
+by-open (stop x) n k seal s out r after not7 at never p =
     record {
       stopped = λ z. (ap numberOf (p .0), refusal-length r (λ y. z (sym (ap numberOf (p .0)) ∙ y)), p .1);
       through = λ z. absurd (never x refl z);
@@ -114,7 +127,7 @@ module _ (P : Type 0) (n : ℕ) (c : Check) (v : Verdict P n c) where
       go (passes p e) = same-pass i n (sym h ∙ e)
       go (stops x z e) = absurd (pass-or-stop i x (sym h ∙ e))
 
-  stop-is : (x : Answer) → c ≡ stop x → numberOf x ≡ 0 → ⊥
+  pub stop-is : (x : Answer) → c ≡ stop x → numberOf x ≡ 0 → ⊥
   stop-is x h k = go v
     where
       go : Verdict P n c → ⊥
@@ -124,17 +137,31 @@ module _ (P : Type 0) (n : ℕ) (c : Check) (v : Verdict P n c) where
           let yx : y ≡ x = cc in
           z (ap numberOf yx ∙ k)
 
+-- the checks of opening do not stop at 7
+module _ (form : ℕ) (key nonce ad s : List ℕ) (t : ℕ) (out : List ℕ) where
+  key-in : Bool
+  key-in = eqb (length key) 16 || (eqb (length key) 24 || eqb (length key) 32)
+
+  open-number : numberOf (asAnswer (openCheck form (length key) (length nonce) t (length ad) (length s) (length out))) ≡ firstFailing (openChecks form key nonce ad s t out)
+  unfolding key-in openCheck callCheck
+  open-number =
+      number-of (leb form 1) key-in (from-to 1 15 (length nonce)) (from-to 4 16 t) (leb (length ad) 4096) (from-to t (16384 + t) (length s))
+      (leb (length s - t) (length out)) (length s - t)
+
+  pub opening-not-7 : numberOf (asAnswer (openCheck form (length key) (length nonce) t (length ad) (length s) (length out))) ≡ 7 → ⊥
+  unfolding key-in
+  opening-not-7 h =
+      never-7 (leb form 1) key-in (from-to 1 15 (length nonce)) (from-to 4 16 t) (leb (length ad) 4096) (from-to t (16384 + t) (length s))
+      (leb (length s - t) (length out)) (sym open-number ∙ h)
+
 pub opening-answers : (form : ℕ) (key nonce ad s : List ℕ) (t : ℕ) (out : List ℕ) (r : Answer) (after : List ℕ) → Opens form key nonce ad s t out r after
     → Answers (firstFailing (openChecks form key nonce ad s t out)) (length s - t) out r after
-unfolding Opens openCheck callCheck
+unfolding Opens
 opening-answers form key nonce ad s t out r after p =
-    subst (λ (i : ℕ). Answers i (length s - t) out r after) number
-    (by-open checks (length s - t) (sealing form key nonce ad t) s out r after not7
+    subst (λ (i : ℕ). Answers i (length s - t) out r after) (open-number form key nonce ad s t out)
+    (by-open checks (length s - t) (openRuns form key nonce ad t s) (sealing form key nonce ad t) s out r after (opening-not-7 form key nonce ad s t out)
     (pass-is Fits (length s - t) checks verdict) (stop-is Fits (length s - t) checks verdict) p)
   where
-    key-in : Bool
-    key-in = eqb (length key) 16 || (eqb (length key) 24 || eqb (length key) 32)
-
     checks : Check
     checks = openCheck form (length key) (length nonce) t (length ad) (length s) (length out)
 
@@ -143,14 +170,3 @@ opening-answers form key nonce ad s t out r after p =
 
     verdict : Verdict Fits (length s - t) checks
     verdict = open-verdict form (length key) (length nonce) t (length ad) (length s) (length out)
-
-    number : numberOf (asAnswer checks) ≡ firstFailing (openChecks form key nonce ad s t out)
-    number =
-        number-of (leb form 1) key-in (from-to 1 15 (length nonce)) (from-to 4 16 t) (leb (length ad) 4096) (from-to t (16384 + t) (length s))
-        (leb (length s - t) (length out)) (length s - t)
-
-    not7 : numberOf (asAnswer checks) ≡ 7 → ⊥
-    not7 h =
-        not-first 7 (openChecks form key nonce ad s t out)
-        (λ z. omega arith, (λ z. omega arith, (λ z. omega arith, (λ z. omega arith, (λ z. omega arith, (λ z. omega arith, (λ z. omega arith, (λ z. omega arith))))))))
-        (sym number ∙ h)

@@ -13,7 +13,7 @@ use Rattle.mode.specs.Sealing.{otr}
 use Rattle.mode.specs.Opening.{accepted, refused}
 use Rattle.mode.proofs.Third.{length-otr, otr-injective}
 use Rattle.link.specs.Checks.{Check, pass, openCheck}
-use Rattle.link.specs.Promises.{SealsBy, Seals, OpensBy, Opens}
+use Rattle.link.specs.Promises.{sealRuns, openRuns, SealsBy, Seals, OpensBy, Opens}
 use Rattle.link.specs.declared.answer.Answer.{Answer}
 use Rattle.link.specs.declared.answer.Answer.the-variants.{Done}
 use Rattle.link.proofs.Entries.{aes-cipher}
@@ -22,18 +22,19 @@ use Rattle.demands.proofs.Limits.{seal-passes, open-passes}
 
 -- ---- for any cipher E: opening what sealing gives, the message comes back, and nothing else
 module _ (E : List ℕ → List ℕ) (e : IsCipher E) (f : Form) (nonce ad m : List ℕ) (t : ℕ) (hn : length nonce ≤ 15) (ht : t ≤ 16) (out : List ℕ) (r : Answer) (after : List ℕ) where
-  pub any-cipher : OpensBy (pass (length m)) (otr E f nonce ad t) (otr E f nonce ad t m) out r after → (r ≡ Done (length m)) × (after ≡ lay 0 m out)
-  any-cipher (accepted n, q, h, b) = (h, b ∙ ap (λ (x : List ℕ). lay 0 x out) (otr-injective E e f nonce ad t hn ht n m q))
-  any-cipher (refused, q, h, b) = absurd (q m refl)
+  pub any-cipher : (k : ℕ) → OpensBy (pass (length m)) k (otr E f nonce ad t) (otr E f nonce ad t m) out r after
+      → (r ≡ Done (length m) k) × (after ≡ lay 0 m out)
+  any-cipher k (accepted n, q, h, b) = (h, b ∙ ap (λ (x : List ℕ). lay 0 x out) (otr-injective E e f nonce ad t hn ht n m q))
+  any-cipher k (refused, q, h, b) = absurd (q m refl)
 
 -- ---- for AES under the key
 module _ (form : ℕ) (key nonce ad m : List ℕ) (t : ℕ) (limits : Limits form (length key) (length nonce) t (length ad)) (short : length m ≤ 16384) where
   -- given room, the call is done, and the buffer has exactly the sealed bytes in front
   pub is-sealed : (out : List ℕ) → length m + t ≤ length out → (r : Answer) (after : List ℕ) → Seals form key nonce ad m t out r after
-      → (r ≡ Done (length m + t)) × (after ≡ lay 0 (otr (aes key) (formOf form) nonce ad t m) out)
+      → (r ≡ Done (length m + t) (sealRuns form key nonce ad t m)) × (after ≡ lay 0 (otr (aes key) (formOf form) nonce ad t m) out)
   unfolding Seals
   is-sealed out room r after p =
-      subst (λ (c : Check). SealsBy c (otr (aes key) (formOf form) nonce ad t m) out r after)
+      subst (λ (c : Check). SealsBy c (sealRuns form key nonce ad t m) (otr (aes key) (formOf form) nonce ad t m) out r after)
       (seal-passes form (length key) (length nonce) t (length ad) (length m) (length out) limits short room) p
 
   sealed-long : length (otr (aes key) (formOf form) nonce ad t m) ≡ length m + t
@@ -41,11 +42,11 @@ module _ (form : ℕ) (key nonce ad m : List ℕ) (t : ℕ) (limits : Limits for
 
   -- and opened again: the message, and nothing else
   pub round-trip : (out : List ℕ) → length m ≤ length out → (r : Answer) (after : List ℕ) → Opens form key nonce ad (otr (aes key) (formOf form) nonce ad t m) t out r after
-      → (r ≡ Done (length m)) × (after ≡ lay 0 m out)
+      → (r ≡ Done (length m) (openRuns form key nonce ad t (otr (aes key) (formOf form) nonce ad t m))) × (after ≡ lay 0 m out)
   unfolding Opens
   round-trip out room r after p =
       any-cipher (aes key) (aes-cipher key) (formOf form) nonce ad m t (limits .nonces .1) (limits .tags .1) out r after
-      (subst (λ (c : Check). OpensBy c (otr (aes key) (formOf form) nonce ad t) s out r after) checks p)
+      (openRuns form key nonce ad t s) (subst (λ (c : Check). OpensBy c (openRuns form key nonce ad t s) (otr (aes key) (formOf form) nonce ad t) s out r after) checks p)
     where
       s : List ℕ
       s = otr (aes key) (formOf form) nonce ad t m

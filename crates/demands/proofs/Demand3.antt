@@ -16,7 +16,7 @@ use Rattle.mode.specs.Opening.{accepted, refused}
 use Rattle.mode.proofs.Third.{length-otr, otr-injective}
 use Rattle.link.specs.Answers.{numberOf, lengthOf}
 use Rattle.link.specs.Checks.{Check, pass}
-use Rattle.link.specs.Promises.{OpensBy, Opens}
+use Rattle.link.specs.Promises.{openRuns, OpensBy, Opens}
 use Rattle.link.specs.declared.answer.Answer.{Answer}
 use Rattle.link.proofs.Entries.{aes-cipher}
 use Rattle.demands.specs.Calls.{Limits}
@@ -32,8 +32,8 @@ pub record Opening (seal : List ℕ → List ℕ) (s out : List ℕ) (r : Answer
 
 -- ---- for any cipher E
 module _ (E : List ℕ → List ℕ) (e : IsCipher E) (f : Form) (nonce ad s : List ℕ) (t : ℕ) (hn : length nonce ≤ 15) (ht : t ≤ 16) (out : List ℕ) (r : Answer) (after : List ℕ) where
-  pub any-cipher : OpensBy (pass (length s - t)) (otr E f nonce ad t) s out r after → Opening (otr E f nonce ad t) s out r after
-  any-cipher (accepted m, q, h, b) =
+  pub any-cipher : (k : ℕ) → OpensBy (pass (length s - t)) k (otr E f nonce ad t) s out r after → Opening (otr E f nonce ad t) s out r after
+  any-cipher k (accepted m, q, h, b) =
       let done-is : numberOf r ≡ 0 = ap numberOf h in
       let long : length s ≡ length m + t = sym (ap length q) ∙ length-otr E e f nonce ad t hn ht m in
       let left : length s - t ≡ length m = omega arith in
@@ -41,7 +41,7 @@ module _ (E : List ℕ → List ℕ) (e : IsCipher E) (f : Form) (nonce ad s : L
         forged = (λ z. absurd (omega arith), λ none. absurd (none m q));
         done = λ z. (m, q, λ n g. otr-injective E e f nonce ad t hn ht n m (g ∙ sym q), ap lengthOf h ∙ left, b);
       }
-  any-cipher (refused, q, h, b) =
+  any-cipher k (refused, q, h, b) =
       let forged-is : numberOf r ≡ 7 = ap numberOf h in
       record {
         forged = (λ z. q, λ none. forged-is);
@@ -54,6 +54,6 @@ pub opening : (form : ℕ) (key nonce ad s : List ℕ) (t : ℕ) (out : List ℕ
     → Opens form key nonce ad s t out r after → Opening (otr (aes key) (formOf form) nonce ad t) s out r after
 unfolding Opens
 opening form key nonce ad s t out r after f p q o h =
-    any-cipher (aes key) (aes-cipher key) (formOf form) nonce ad s t (f .nonces .1) (f .tags .1) out r after
-    (subst (λ (c : Check). OpensBy c (otr (aes key) (formOf form) nonce ad t) s out r after)
+    any-cipher (aes key) (aes-cipher key) (formOf form) nonce ad s t (f .nonces .1) (f .tags .1) out r after (openRuns form key nonce ad t s)
+    (subst (λ (c : Check). OpensBy c (openRuns form key nonce ad t s) (otr (aes key) (formOf form) nonce ad t) s out r after)
     (open-passes form (length key) (length nonce) t (length ad) (length s) (length out) f p q o) h)

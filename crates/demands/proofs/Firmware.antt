@@ -1,6 +1,6 @@
 -- The calls from C (document 02, wish 2), whose answer is the number alone: their promises decide, the whole answer follows from the
 -- number, and the wrong programs are ruled out as before. Assumes nothing.
-use mathlib.Core.Path.{_≡_, refl, sym, ap, subst, _∙_}
+use mathlib.Core.Path.{_≡_, sym, ap, subst, _∙_}
 use mathlib.Core.List.{List, []}
 use Prim.Native.Nat.{ℕ, _+_, _-_}
 use native.Mathlib.Omega.{arith}
@@ -8,14 +8,14 @@ use lib.ListN.{length}
 use Rattle.mode.specs.Opening.{accepted, refused}
 use Rattle.link.specs.Answers.{numberOf, lengthOf, answerOf}
 use Rattle.link.specs.Checks.{Check, pass, sealCheck, openCheck}
-use Rattle.link.specs.Promises.{sealing, SealsBy, Seals, OpensBy, Opens}
+use Rattle.link.specs.Promises.{sealing, sealRuns, openRuns, SealsBy, Seals, OpensBy, Opens}
 use Rattle.link.specs.declared.answer.Answer.{Answer}
-use Rattle.link.specs.declared.answer.Answer.the-variants.{Done}
-use Rattle.link.proofs.Answers.{Answered, done, refusal, answered}
+use Rattle.link.proofs.Answers.{stands-for}
 use Rattle.link.proofs.Verdicts.{Verdict, passes, stops, seal-verdict, open-verdict}
 use Rattle.firmware.specs.Numbered.{Numbered}
 use Rattle.demands.proofs.Decided.{seals-decided, opens-decided}
 use Rattle.demands.proofs.Demand1.{sealing-answers, opening-answers}
+use Rattle.demands.proofs.Count.{Counts, sealing-counts, opening-counts}
 use Rattle.demands.proofs.Named.{key, nonce, one}
 use Rattle.demands.proofs.Wrong.{room, small, s, refuses-sealing, refuses-opening}
 
@@ -33,35 +33,32 @@ module _ (P : Answer → List ℕ → Type 0) where
       → (n : ℕ) (a : List ℕ) → Bad n a → Numbered P n a → ⊥
   ruled-out Bad never n a bad (r, is, p) = never r a (subst (λ (i : ℕ). Bad i a) is bad) p
 
-  -- where P is done with k bytes and no other number of them, the number stands for an answer that P allows
-  pub from-number : (k : ℕ) → ((r : Answer) (a : List ℕ) → P r a → numberOf r ≡ 0 → lengthOf r ≡ k)
-      → (n : ℕ) (a : List ℕ) → Numbered P n a → P (answerOf n k) a
-  from-number k long n a (r, is, p) =
-      subst (λ (x : Answer). P x a) (go (answered r) ∙ ap (λ (i : ℕ). answerOf i k) (sym is)) p
-    where
-      go : Answered r → r ≡ answerOf (numberOf r) k
-      go (done i e) = e ∙ ap Done (sym (ap lengthOf e) ∙ long r a p (ap numberOf e)) ∙ ap (λ (x : Answer). answerOf (numberOf x) k) (sym e)
-      go (refusal most none stands) = stands k
+  -- where P is done with n bytes and no other number of them, and lets the cipher run k times if it runs, the number stands for an
+  -- answer that P allows
+  pub from-number : (n k : ℕ) → ((r : Answer) (a : List ℕ) → P r a → numberOf r ≡ 0 → lengthOf r ≡ n) → ((r : Answer) (a : List ℕ) → P r a → Counts k r)
+      → (i : ℕ) (a : List ℕ) → Numbered P i a → P (answerOf i n k) a
+  from-number n k long counts i a (r, is, p) =
+      subst (λ (x : Answer). P x a) (stands-for r n k (long r a p) (counts r a p .ran) ∙ ap (λ (j : ℕ). answerOf j n k) (sym is)) p
 
 -- ---- what the checks let through is done with k bytes
 module _ {Q : Type 0} {k : ℕ} (c : Check) (v : Verdict Q k c) (r : Answer) (a : List ℕ) where
-  seal-long : (bytes out : List ℕ) → SealsBy c bytes out r a → numberOf r ≡ 0 → lengthOf r ≡ k
-  seal-long bytes out p z = go v
+  seal-long : (j : ℕ) (bytes out : List ℕ) → SealsBy c j bytes out r a → numberOf r ≡ 0 → lengthOf r ≡ k
+  seal-long j bytes out p z = go v
     where
       go : Verdict Q k c → lengthOf r ≡ k
-      go (passes q e) = ap lengthOf (subst (λ (d : Check). SealsBy d bytes out r a) e p .0)
-      go (stops x y e) = absurd (y (sym (ap numberOf (subst (λ (d : Check). SealsBy d bytes out r a) e p .0)) ∙ z))
+      go (passes q e) = ap lengthOf (subst (λ (d : Check). SealsBy d j bytes out r a) e p .0)
+      go (stops x y e) = absurd (y (sym (ap numberOf (subst (λ (d : Check). SealsBy d j bytes out r a) e p .0)) ∙ z))
 
-  open-long : (seal : List ℕ → List ℕ) (s out : List ℕ) → OpensBy c seal s out r a → numberOf r ≡ 0 → lengthOf r ≡ k
-  open-long seal s out p z = go v
+  open-long : (j : ℕ) (seal : List ℕ → List ℕ) (s out : List ℕ) → OpensBy c j seal s out r a → numberOf r ≡ 0 → lengthOf r ≡ k
+  open-long j seal s out p z = go v
     where
-      opened : OpensBy (pass k) seal s out r a → lengthOf r ≡ k
+      opened : OpensBy (pass k) j seal s out r a → lengthOf r ≡ k
       opened (accepted m, q, h, w) = ap lengthOf h
       opened (refused, q, h, w) = absurd (let seven : numberOf r ≡ 7 = ap numberOf h in omega arith)
 
       go : Verdict Q k c → lengthOf r ≡ k
-      go (passes q e) = opened (subst (λ (d : Check). OpensBy d seal s out r a) e p)
-      go (stops x y e) = absurd (y (sym (ap numberOf (subst (λ (d : Check). OpensBy d seal s out r a) e p .0)) ∙ z))
+      go (passes q e) = opened (subst (λ (d : Check). OpensBy d j seal s out r a) e p)
+      go (stops x y e) = absurd (y (sym (ap numberOf (subst (λ (d : Check). OpensBy d j seal s out r a) e p .0)) ∙ z))
 
 -- ---- the two calls
 module _ (form : ℕ) (key nonce ad body : List ℕ) (t : ℕ) (out : List ℕ) where
@@ -74,20 +71,22 @@ module _ (form : ℕ) (key nonce ad body : List ℕ) (t : ℕ) (out : List ℕ) 
   open-decided = numbered-decided (Opens form key nonce ad body t out) (opens-decided form key nonce ad body t out)
 
   pub seal-answer : (n : ℕ) (a : List ℕ) → Numbered (Seals form key nonce ad body t out) n a
-      → Seals form key nonce ad body t out (answerOf n (length body + t)) a
+      → Seals form key nonce ad body t out (answerOf n (length body + t) (sealRuns form key nonce ad t body)) a
   unfolding Seals
   seal-answer =
-      from-number (Seals form key nonce ad body t out) (length body + t)
+      from-number (Seals form key nonce ad body t out) (length body + t) (sealRuns form key nonce ad t body)
       (λ r a. seal-long (sealCheck form (length key) (length nonce) t (length ad) (length body) (length out))
-      (seal-verdict form (length key) (length nonce) t (length ad) (length body) (length out)) r a (sealing form key nonce ad t body) out)
+      (seal-verdict form (length key) (length nonce) t (length ad) (length body) (length out)) r a (sealRuns form key nonce ad t body) (sealing form key nonce ad t body) out)
+      (λ r a. sealing-counts form key nonce ad t out r a body)
 
   pub open-answer : (n : ℕ) (a : List ℕ) → Numbered (Opens form key nonce ad body t out) n a
-      → Opens form key nonce ad body t out (answerOf n (length body - t)) a
+      → Opens form key nonce ad body t out (answerOf n (length body - t) (openRuns form key nonce ad t body)) a
   unfolding Opens
   open-answer =
-      from-number (Opens form key nonce ad body t out) (length body - t)
+      from-number (Opens form key nonce ad body t out) (length body - t) (openRuns form key nonce ad t body)
       (λ r a. open-long (openCheck form (length key) (length nonce) t (length ad) (length body) (length out))
-      (open-verdict form (length key) (length nonce) t (length ad) (length body) (length out)) r a (sealing form key nonce ad t) body out)
+      (open-verdict form (length key) (length nonce) t (length ad) (length body) (length out)) r a (openRuns form key nonce ad t body) (sealing form key nonce ad t) body out)
+      (λ r a. opening-counts form key nonce ad t out r a body)
 
 -- ---- wrong programs that the number brings, at the named inputs of `Wrong` in the parallel form, where any number but 0 is wrong
 not-sealed : (n : ℕ) (a : List ℕ) → (n ≡ 0 → ⊥) → Numbered (Seals 0 key nonce [] (one 0) 16 room) n a → ⊥

@@ -113,7 +113,7 @@ byte-from f b v m t h is odd some =
     ∙ ap (λ (y : List ℕ). bitXor (getD m i 0) (getD y 0 0)) (aes-is (doubles (pairsOf (length m)) (doubles (doublings f) v)))
 
 -- ---- what is computed of a nonce block b: v = E(b), and in each form the first byte of E(U)
-record Runs (b v : List ℕ) (byte : Form → ℕ) : Type 0 where
+record Ciphered (b v : List ℕ) (byte : Form → ℕ) : Type 0 where
   long : length b ≡ 16
   is : cipher 10 w b ≡ v
   first : (f : Form) → getD (cipher 10 w (doubles (doublings f) v)) 0 0 ≡ byte f
@@ -123,7 +123,7 @@ either P p s parallel = p
 either P p s serial = s
 
 -- so the first byte that the byte 0 seals to
-first-of : (b v : List ℕ) (byte : Form → ℕ) → Runs b v byte → (f : Form) (t : ℕ) → getD (from-block f b t (one 0)) 0 0 ≡ bitXor 0 (byte f)
+first-of : (b v : List ℕ) (byte : Form → ℕ) → Ciphered b v byte → (f : Form) (t : ℕ) → getD (from-block f b t (one 0)) 0 0 ≡ bitXor 0 (byte f)
 unfolding blocks pairsOf even doubles
 first-of b v byte k f t = byte-from f b v (one 0) t (k .long) (k .is) refl (omega arith) ∙ ap (bitXor 0) (k .first f)
 
@@ -135,9 +135,9 @@ abbrev byte12 : Form → ℕ
 byte12 parallel = 0xe0
 byte12 serial = 0x3a
 
-runs-12 : Runs (format 16 nonce) v12 byte12
+ciphered-12 : Ciphered (format 16 nonce) v12 byte12
 unfolding w xor zeros zipWith format shift double doubles product inverse affine substitute addRoundKey round lastRound rounds cipher
-runs-12 = record { long = refl; is = refl; first = either (λ f. getD (cipher 10 w (doubles (doublings f) v12)) 0 0 ≡ byte12 f) refl refl }
+ciphered-12 = record { long = refl; is = refl; first = either (λ f. getD (cipher 10 w (doubles (doublings f) v12)) 0 0 ≡ byte12 f) refl refl }
 
 -- the nonce of 15 and a tag of 15
 abbrev v15 : List ℕ
@@ -147,9 +147,9 @@ abbrev byte15 : Form → ℕ
 byte15 parallel = 0x99
 byte15 serial = 0x51
 
-runs-15 : Runs (format 15 nonce15) v15 byte15
+ciphered-15 : Ciphered (format 15 nonce15) v15 byte15
 unfolding w xor zeros zipWith format shift double doubles product inverse affine substitute addRoundKey round lastRound rounds cipher
-runs-15 = record { long = refl; is = refl; first = either (λ f. getD (cipher 10 w (doubles (doublings f) v15)) 0 0 ≡ byte15 f) refl refl }
+ciphered-15 = record { long = refl; is = refl; first = either (λ f. getD (cipher 10 w (doubles (doublings f) v15)) 0 0 ≡ byte15 f) refl refl }
 
 -- the same with the marker laid over the tag byte: 01 and the nonce
 abbrev vLaid : List ℕ
@@ -159,9 +159,9 @@ abbrev byteLaid : Form → ℕ
 byteLaid parallel = 0x83
 byteLaid serial = 0x39
 
-runs-laid : Runs (1 ∷ nonce15) vLaid byteLaid
+ciphered-laid : Ciphered (1 ∷ nonce15) vLaid byteLaid
 unfolding w xor zeros zipWith format shift double doubles product inverse affine substitute addRoundKey round lastRound rounds cipher
-runs-laid = record { long = refl; is = refl; first = either (λ f. getD (cipher 10 w (doubles (doublings f) vLaid)) 0 0 ≡ byteLaid f) refl refl }
+ciphered-laid = record { long = refl; is = refl; first = either (λ f. getD (cipher 10 w (doubles (doublings f) vLaid)) 0 0 ≡ byteLaid f) refl refl }
 
 -- and E(4v), for the nonce of 12
 fourfold : getD (cipher 10 w (doubles 2 v12)) 0 0 ≡ 0x04
@@ -171,7 +171,7 @@ fourfold = refl
 -- ---- the bytes that the wrong programs get wrong
 -- the first that the byte 0 seals to: not 0, and not the same in both forms
 first-byte : (f : Form) → getD (otr (aes key) f nonce [] 16 (one 0)) 0 0 ≡ bitXor 0 (byte12 f)
-first-byte f = first-of (format 16 nonce) v12 byte12 runs-12 f 16
+first-byte f = first-of (format 16 nonce) v12 byte12 ciphered-12 f 16
 
 pub first-some : (f : Form) → getD (otr (aes key) f nonce [] 16 (one 0)) 0 0 ≡ 0 → ⊥
 first-some parallel h = let z : _≡_ {A = ℕ} 0xe0 0 = sym (first-byte parallel) ∙ h in omega arith
@@ -185,16 +185,16 @@ forms-apart e =
 -- the last that 33 zeros seal to, behind their pair
 byte-32 : (f : Form) → getD (otr (aes key) f nonce [] 16 m33) 32 0 ≡ bitXor 0 (getD (cipher 10 w (double (doubles (doublings f) v12))) 0 0)
 unfolding blocks pairsOf even doubles
-byte-32 f = byte-from f (format 16 nonce) v12 m33 16 (runs-12 .long) (runs-12 .is) refl (omega arith)
+byte-32 f = byte-from f (format 16 nonce) v12 m33 16 (ciphered-12 .long) (ciphered-12 .is) refl (omega arith)
 
 pub last-some : (f : Form) → getD (otr (aes key) f nonce [] 16 m33) 32 0 ≡ 0 → ⊥
 unfolding doubles
-last-some parallel h = let z : _≡_ {A = ℕ} 0x3a 0 = sym (byte-32 parallel ∙ ap (bitXor 0) (runs-12 .first serial)) ∙ h in omega arith
+last-some parallel h = let z : _≡_ {A = ℕ} 0x3a 0 = sym (byte-32 parallel ∙ ap (bitXor 0) (ciphered-12 .first serial)) ∙ h in omega arith
 last-some serial h = let z : _≡_ {A = ℕ} 0x04 0 = sym (byte-32 serial ∙ ap (bitXor 0) fourfold) ∙ h in omega arith
 
 -- the first from the block with the marker laid over the tag byte, which differs from the right one
 pub laid-apart : (f : Form) → getD (from-block f (1 ∷ nonce15) 15 (one 0)) 0 0 ≡ getD (otr (aes key) f nonce15 [] 15 (one 0)) 0 0 → ⊥
-laid-apart f h = differ f (sym (first-of (1 ∷ nonce15) vLaid byteLaid runs-laid f 15) ∙ h ∙ first-of (format 15 nonce15) v15 byte15 runs-15 f 15)
+laid-apart f h = differ f (sym (first-of (1 ∷ nonce15) vLaid byteLaid ciphered-laid f 15) ∙ h ∙ first-of (format 15 nonce15) v15 byte15 ciphered-15 f 15)
   where
     differ : (f : Form) → bitXor 0 (byteLaid f) ≡ bitXor 0 (byte15 f) → ⊥
     differ parallel h = let z : _≡_ {A = ℕ} 0x83 0x99 = h in omega arith

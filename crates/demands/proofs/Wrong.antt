@@ -2,26 +2,27 @@
 -- The named inputs: a key of 16 zeros, a nonce of 12 zeros, no associated data, 16 bytes of tag, messages of one byte, 0 and 1; and what
 -- stands with the program. Assumes nothing.
 use mathlib.Core.Path.{_≡_, refl, sym, ap, _∙_}
-use mathlib.Core.Logic.{inl}
+use mathlib.Core.Logic.{_⊎_, inl, inr}
 use mathlib.Core.List.{List, [], _∷_}
-use Prim.Native.Nat.{ℕ, _+_, _≤_}
+use Prim.Native.Nat.{ℕ, _+_, _-_, _/_, _≤_}
 use native.Mathlib.Omega.{arith}
 use lib.ListN.{length, getD}
 use borrow.Author.Tests.{le-leb}
 use Rattle.lists.specs.Hex.{bytes}
 use Rattle.lists.proofs.Laid.{lay-whole}
 use Rattle.aes.specs.Expansion.{aes}
-use Rattle.mode.specs.Form.{parallel, serial, formOf}
+use Rattle.mode.specs.Form.{Form, parallel, serial, formOf}
 use Rattle.mode.specs.Sealing.{otr}
 use Rattle.mode.proofs.Third.{length-otr, otr-injective}
-use Rattle.link.specs.Answers.{numberOf}
+use Rattle.link.specs.Answers.{numberOf, runsOf}
 use Rattle.link.specs.Promises.{Seals, Opens}
 use Rattle.link.specs.declared.answer.Answer.{Answer}
 use Rattle.link.proofs.Entries.{aes-cipher}
-use Rattle.demands.specs.Calls.{Limits}
+use Rattle.demands.specs.Calls.{Limits, formula}
 use Rattle.demands.proofs.Demand1.{sealing-answers, opening-answers}
 use Rattle.demands.proofs.Demand2.{is-sealed, round-trip}
 use Rattle.demands.proofs.Demand3.{opening}
+use Rattle.demands.proofs.Count.{sealing-formula, opening-formula}
 use Rattle.demands.proofs.Named.{key, nonce, nonce15, one, m33, from-block, first-some, forms-apart, last-some, laid-apart}
 
 -- buffers of 17 zeros, of one, of 49 and of 16
@@ -49,6 +50,11 @@ differ e =
 empty : (m : List ℕ) → length m ≡ 0 → m ≡ []
 empty [] h = refl
 empty (x ∷ m) h = absurd (omega arith)
+
+-- without data, a message of so many bytes runs the cipher as often in either form
+forms : (f : Form) (m : ℕ) → formula f m 0 ≡ 2 + (m + 15) / 16
+forms parallel m = omega arith
+forms serial m = omega arith
 
 module _ (form : ℕ) (named : form ≤ 1) where
   within : (k t : ℕ) → (1 ≤ k) × (k ≤ 15) → (4 ≤ t) × (t ≤ 16) → Limits form 16 k t 0
@@ -116,6 +122,21 @@ module _ (form : ℕ) (named : form ≤ 1) where
       let z : _≡_ {A = ℕ} 0 1 = ap (λ (l : List ℕ). getD l 15 0) e in
       omega arith
 
+  -- ---- reports one run more on refusal 7: of the two tags one at least is refused, after two runs
+  done-with-tag : (b : ℕ) (r : Answer) (after : List ℕ) → (numberOf r ≡ 7 → runsOf r ≡ 3) → Opens form key nonce [] (bytes 16 b) 16 [] r after → numberOf r ≡ 0
+  done-with-tag b r after h p = go (opening-answers form key nonce [] (bytes 16 b) 16 [] r after p .through (rw (le-leb form 1 named)))
+    where
+      go : (numberOf r ≡ 0) ⊎ (numberOf r ≡ 7) → numberOf r ≡ 0
+      go (inl z) = z
+      go (inr seven) =
+          let two : runsOf r ≡ 2 = opening-formula form key nonce [] 16 [] r after (bytes 16 b) p (inr seven) ∙ forms (formOf form) 0 in
+          let three = h seven in
+          absurd (omega arith)
+
+  pub one-more-on-7 : (r r′ : Answer) (a a′ : List ℕ) → (numberOf r ≡ 7 → runsOf r ≡ 3) → (numberOf r′ ≡ 7 → runsOf r′ ≡ 3)
+      → Opens form key nonce [] (bytes 16 0) 16 [] r a → Opens form key nonce [] (bytes 16 1) 16 [] r′ a′ → ⊥
+  one-more-on-7 r r′ a a′ h h′ p q = any-tag r r′ a a′ (done-with-tag 0 r a h p) (done-with-tag 1 r′ a′ h′ q) p q
+
   -- ---- is done and writes no message
   pub writes-no-message : (r : Answer) → Opens form key nonce [] (s form 1) 16 small r small → ⊥
   writes-no-message r p = differ (opened-one 1 r small p .1)
@@ -133,6 +154,31 @@ module _ (form : ℕ) (named : form ≤ 1) where
   first-pair-alone r after h p =
       last-some (formOf form)
       (sym (ap (λ (l : List ℕ). getD l 32 0) (all-sealed nonce m33 16 room33 limits (omega arith) refl r after p .1)) ∙ h)
+
+  -- the same with the right number of runs: what it reports does not help it
+  pub formula-and-first-pair : (r : Answer) (after : List ℕ) → getD after 32 0 ≡ 0 → runsOf r ≡ formula (formOf form) 33 0
+      → Seals form key nonce [] m33 16 room33 r after → ⊥
+  formula-and-first-pair r after h reported p = first-pair-alone r after h p
+
+  -- ---- reports no runs: one byte takes three
+  pub seals-reporting-0 : (r : Answer) (after : List ℕ) → runsOf r ≡ 0 → Seals form key nonce [] (one 0) 16 room r after → ⊥
+  seals-reporting-0 r after h p =
+      let three : runsOf r ≡ 3 = sealing-formula form key nonce [] 16 room r after (one 0) p (sealed-one 0 r after p .0) ∙ forms (formOf form) 1 in
+      omega arith
+
+  pub opens-reporting-0 : (r : Answer) (after : List ℕ) → runsOf r ≡ 0 → Opens form key nonce [] (s form 0) 16 small r after → ⊥
+  unfolding s
+  opens-reporting-0 r after h p =
+      let long = length-otr (aes key) (aes-cipher key) (formOf form) nonce [] 16 (omega arith) (omega arith) (one 0) in
+      let ran = opening-formula form key nonce [] 16 small r after (s form 0) p (inl (opened-one 0 r after p .0)) ∙ forms (formOf form) (length (s form 0) - 16) in
+      omega (arith, long, ran)
+
+  -- ---- counts a run for the empty block of an empty message
+  pub counts-the-empty-block : (r : Answer) (after : List ℕ) → runsOf r ≡ 3 → Seals form key nonce [] [] 16 room16 r after → ⊥
+  counts-the-empty-block r after h p =
+      let done-is : numberOf r ≡ 0 = all-sealed nonce [] 16 room16 limits (omega arith) refl r after p .0 in
+      let two : runsOf r ≡ 2 = sealing-formula form key nonce [] 16 room16 r after [] p done-is ∙ forms (formOf form) 0 in
+      omega arith
 
   -- ---- a nonce of 15 bytes and a tag of 15: byte 0 of the nonce block is f1
   limits-15 : Limits form 16 15 15 0

@@ -3,9 +3,10 @@ use mathlib.Core.Path.{_≡_}
 use mathlib.Core.Bool.{Bool, true, false, _||_}
 use mathlib.Core.Logic.{_⊎_}
 use mathlib.Core.List.{List, [], _∷_}
-use Prim.Native.Nat.{ℕ, _+_, _-_, _≤_}
+use Prim.Native.Nat.{ℕ, zero, suc, _+_, _-_, _/_, _≤_}
 use lib.Dec.{eqb, leb}
 use lib.ListN.{length}
+use Rattle.mode.specs.Form.{Form, parallel, serial}
 use Rattle.link.specs.Checks.{from-to}
 
 -- checks in their order, each with its number and whether it passes: the number of the first that fails, and 0 where none does
@@ -41,3 +42,25 @@ pub record Limits (form key nonce t ad : ℕ) : Type 0 where
   pub nonces : (1 ≤ nonce) × (nonce ≤ 15)
   pub tags : (4 ≤ t) × (t ≤ 16)
   pub most : ad ≤ 4096
+
+-- ---- how many times the cipher runs (document 02, wish 6), by lengths alone
+-- a length over 16, rounded up
+abbrev pub rounded : ℕ → ℕ
+rounded b = (b + 15) / 16
+
+-- parallel data: if there is any, its blocks and one
+abbrev pub dataRuns : ℕ → ℕ
+dataRuns zero = 0
+dataRuns (suc b) = rounded (suc b) + 1
+
+-- serial data, from the steps of AF-S (source document 000, Fig. 3): if there is any, line 2 for Q, line 5 for each block before the
+-- last, and line 7 or 8 for that
+abbrev pub chainRuns : ℕ → ℕ
+chainRuns zero = 0
+chainRuns (suc b) = 1 + (rounded (suc b) - 1) + 1
+
+-- a message of m bytes and data of ad: 2, the message length over 16 rounded up, and the data's; in the serial form the nonce block,
+-- the data's, the message's blocks and TE
+abbrev pub formula : Form → ℕ → ℕ → ℕ
+formula parallel m ad = 2 + rounded m + dataRuns ad
+formula serial m ad = 1 + chainRuns ad + rounded m + 1

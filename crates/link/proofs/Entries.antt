@@ -25,13 +25,13 @@ use Rattle.link.proofs.Verdicts.{Verdict, passes, stops}
 
 -- ---- the checks
 -- an answer of the checks that is not done: the call stops with it, and the buffer stays
-pub seal-stopped : (c : Check) (bytes out : List ℕ) (r : Answer) → r ≡ asAnswer c → (numberOf r ≡ 0 → ⊥) → SealsBy c bytes out r out
-seal-stopped (pass n) bytes out r e z = absurd (z (ap numberOf e))
-seal-stopped (stop x) bytes out r e z = (e, refl)
+pub seal-stopped : (c : Check) (k : ℕ) (bytes out : List ℕ) (r : Answer) → r ≡ asAnswer c → (numberOf r ≡ 0 → ⊥) → SealsBy c k bytes out r out
+seal-stopped (pass n) k bytes out r e z = absurd (z (ap numberOf e))
+seal-stopped (stop x) k bytes out r e z = (e, refl)
 
-pub open-stopped : (c : Check) (seal : List ℕ → List ℕ) (s out : List ℕ) (r : Answer) → r ≡ asAnswer c → (numberOf r ≡ 0 → ⊥) → OpensBy c seal s out r out
-open-stopped (pass n) seal s out r e z = absurd (z (ap numberOf e))
-open-stopped (stop x) seal s out r e z = (e, refl)
+pub open-stopped : (c : Check) (k : ℕ) (seal : List ℕ → List ℕ) (s out : List ℕ) (r : Answer) → r ≡ asAnswer c → (numberOf r ≡ 0 → ⊥) → OpensBy c k seal s out r out
+open-stopped (pass n) k seal s out r e z = absurd (z (ap numberOf e))
+open-stopped (stop x) k seal s out r e z = (e, refl)
 
 -- an answer of the checks that is done: they have passed, and what they make sure of is known
 pub went-on : {P : Type 0} {n : ℕ} {c : Check} → Verdict P n c → (r : Answer) → r ≡ asAnswer c → numberOf r ≡ 0 → P × (c ≡ pass n)
@@ -59,10 +59,10 @@ unfolding aes
 aes-cipher key = is-cipher (keyRounds key) (keyExpansion key)
 
 -- ---- the answer of opening, by the flag that the passes give
-pub flag-done : (n : ℕ) (o : Opened) → flag o ≡ true → Done n ≡ openedAs n o
-flag-done n (accepted m) h = refl
-flag-done n refused h = absurd (let z : _≡_ {A = ℕ} 0 1 = cc in omega arith)
+pub flag-done : (n k : ℕ) (o : Opened) → flag o ≡ true → Done n k ≡ openedAs n k o
+flag-done n k (accepted m) h = refl
+flag-done n k refused h = absurd (let z : _≡_ {A = ℕ} 0 1 = cc in omega arith)
 
-pub flag-forged : (n : ℕ) (o : Opened) → flag o ≡ false → Forged ≡ openedAs n o
-flag-forged n (accepted m) h = absurd (let z : _≡_ {A = ℕ} 0 1 = cc in omega arith)
-flag-forged n refused h = refl
+pub flag-forged : (n k : ℕ) (o : Opened) → flag o ≡ false → Forged k ≡ openedAs n k o
+flag-forged n k (accepted m) h = absurd (let z : _≡_ {A = ℕ} 0 1 = cc in omega arith)
+flag-forged n k refused h = refl

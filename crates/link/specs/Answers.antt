@@ -1,4 +1,4 @@
--- Document 01, 'What comes back', and document 02, wish 1: the number and the length of each answer.
+-- Document 01, 'What comes back', and document 02, wishes 1 and 6: the number, the length and the runs of the cipher of each answer.
 use mathlib.Core.List.{[], _∷_}
 use Prim.Native.Nat.{ℕ}
 use lib.ListN.{getD}
@@ -6,27 +6,38 @@ use Rattle.link.specs.declared.answer.Answer.{Answer}
 use Rattle.link.specs.declared.answer.Answer.the-variants.{Done, Key, Nonce, Tag, Data, Length, Room, Forged, Form}
 
 abbrev pub numberOf : Answer → ℕ
-numberOf (Done n) = 0
+numberOf (Done n k) = 0
 numberOf Key = 1
 numberOf Nonce = 2
 numberOf Tag = 3
 numberOf Data = 4
 numberOf Length = 5
 numberOf Room = 6
-numberOf Forged = 7
+numberOf (Forged k) = 7
 numberOf Form = 8
 
 abbrev pub lengthOf : Answer → ℕ
-lengthOf (Done n) = n
+lengthOf (Done n k) = n
 lengthOf Key = 0
 lengthOf Nonce = 0
 lengthOf Tag = 0
 lengthOf Data = 0
 lengthOf Length = 0
 lengthOf Room = 0
-lengthOf Forged = 0
+lengthOf (Forged k) = 0
 lengthOf Form = 0
 
--- the answer that a number from 0 to 8 stands for, where a call that is done has length n
-abbrev pub answerOf : ℕ → ℕ → Answer
-answerOf i n = getD (Done n ∷ Key ∷ Nonce ∷ Tag ∷ Data ∷ Length ∷ Room ∷ Forged ∷ Form ∷ []) i Form
+abbrev pub runsOf : Answer → ℕ
+runsOf (Done n k) = k
+runsOf Key = 0
+runsOf Nonce = 0
+runsOf Tag = 0
+runsOf Data = 0
+runsOf Length = 0
+runsOf Room = 0
+runsOf (Forged k) = k
+runsOf Form = 0
+
+-- the answer that a number from 0 to 8 stands for, where a call that is done has length n, and one that ran the cipher ran it k times
+abbrev pub answerOf : ℕ → ℕ → ℕ → Answer
+answerOf i n k = getD (Done n k ∷ Key ∷ Nonce ∷ Tag ∷ Data ∷ Length ∷ Room ∷ Forged k ∷ Form ∷ []) i Form

@@ -43,7 +43,7 @@ openNext t s o = unless (from-to t (16384 + t) s) Length (unless (leb (s - t) o)
 unfoldable pub openCheck : ℕ → ℕ → ℕ → ℕ → ℕ → ℕ → ℕ → Check
 openCheck form key nonce t ad s o = callCheck form key nonce t ad (openNext t s o)
 
--- a check as an answer
+-- a check as an answer, before the cipher has run
 abbrev pub asAnswer : Check → Answer
-asAnswer (pass n) = Done n
+asAnswer (pass n) = Done n 0
 asAnswer (stop c) = c

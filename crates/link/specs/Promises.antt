@@ -1,4 +1,4 @@
--- What the two entry points promise, for every input: the answer, and the complete output buffer.
+-- What the two entry points promise, for every input: the answer, with how many times the cipher ran, and the complete output buffer.
 use mathlib.Core.Path.{_≡_}
 use mathlib.Core.List.{List}
 use Prim.Native.Nat.{ℕ}
@@ -6,8 +6,9 @@ use lib.ListN.{length}
 use Rattle.lists.specs.Lay.{lay}
 use Rattle.aes.specs.Expansion.{aes}
 use Rattle.mode.specs.Form.{formOf}
-use Rattle.mode.specs.Sealing.{otr}
+use Rattle.mode.specs.Sealing.{otr, otrInputs}
 use Rattle.mode.specs.Opening.{Opened, accepted, refused, Allowed}
+use Rattle.mode.specs.Undoing.{foundInputs}
 use Rattle.passes.specs.Shown.{shown}
 use Rattle.link.specs.Checks.{Check, pass, stop, sealCheck, openCheck}
 use Rattle.link.specs.declared.answer.Answer.{Answer}
@@ -17,25 +18,35 @@ use Rattle.link.specs.declared.answer.Answer.the-variants.{Done, Forged}
 abbrev pub sealing : ℕ → List ℕ → List ℕ → List ℕ → ℕ → List ℕ → List ℕ
 sealing form key nonce ad t = otr (aes key) (formOf form) nonce ad t
 
--- ---- sealing: the answer r and the buffer after, for the message m and the buffer out
-abbrev pub SealsBy : Check → List ℕ → List ℕ → Answer → List ℕ → Type 0
-SealsBy (pass n) bytes out r after = (r ≡ Done n) × (after ≡ lay 0 bytes out)
-SealsBy (stop c) bytes out r after = (r ≡ c) × (after ≡ out)
+-- how many blocks that hands to the cipher; and opening, which goes over the sealed bytes s
+abbrev pub sealRuns : ℕ → List ℕ → List ℕ → List ℕ → ℕ → List ℕ → ℕ
+sealRuns form key nonce ad t m = length (otrInputs (aes key) (formOf form) nonce ad t m)
+
+abbrev pub openRuns : ℕ → List ℕ → List ℕ → List ℕ → ℕ → List ℕ → ℕ
+openRuns form key nonce ad t s = length (foundInputs (aes key) (formOf form) nonce ad t s)
+
+-- ---- sealing: the answer r and the buffer after, for the message m and the buffer out; k is the number of runs
+abbrev pub SealsBy : Check → ℕ → List ℕ → List ℕ → Answer → List ℕ → Type 0
+SealsBy (pass n) k bytes out r after = (r ≡ Done n k) × (after ≡ lay 0 bytes out)
+SealsBy (stop c) k bytes out r after = (r ≡ c) × (after ≡ out)
 
 unfoldable pub Seals : ℕ → List ℕ → List ℕ → List ℕ → List ℕ → ℕ → List ℕ → Answer → List ℕ → Type 0
 Seals form key nonce ad m t out r after =
-    SealsBy (sealCheck form (length key) (length nonce) t (length ad) (length m) (length out)) (sealing form key nonce ad t m) out r after
+    SealsBy (sealCheck form (length key) (length nonce) t (length ad) (length m) (length out)) (sealRuns form key nonce ad t m)
+    (sealing form key nonce ad t m) out r after
 
--- ---- opening, said by sealing alone: n message bytes come out of what sealing gives, and zeros where no message seals to s
-abbrev pub openedAs : ℕ → Opened → Answer
-openedAs n (accepted m) = Done n
-openedAs n refused = Forged
+-- ---- opening, said by sealing alone but for the number of runs k: n message bytes come out of what sealing gives, and zeros where no
+-- message seals to s
+abbrev pub openedAs : ℕ → ℕ → Opened → Answer
+openedAs n k (accepted m) = Done n k
+openedAs n k refused = Forged k
 
-abbrev pub OpensBy : Check → (List ℕ → List ℕ) → List ℕ → List ℕ → Answer → List ℕ → Type 0
-OpensBy (pass n) seal s out r after = (o : Opened) × Allowed seal s o × (r ≡ openedAs n o) × (after ≡ shown o n out)
-OpensBy (stop c) seal s out r after = (r ≡ c) × (after ≡ out)
+abbrev pub OpensBy : Check → ℕ → (List ℕ → List ℕ) → List ℕ → List ℕ → Answer → List ℕ → Type 0
+OpensBy (pass n) k seal s out r after = (o : Opened) × Allowed seal s o × (r ≡ openedAs n k o) × (after ≡ shown o n out)
+OpensBy (stop c) k seal s out r after = (r ≡ c) × (after ≡ out)
 
 -- the answer r and the buffer after, for the sealed bytes s and the buffer out
 unfoldable pub Opens : ℕ → List ℕ → List ℕ → List ℕ → List ℕ → ℕ → List ℕ → Answer → List ℕ → Type 0
 Opens form key nonce ad s t out r after =
-    OpensBy (openCheck form (length key) (length nonce) t (length ad) (length s) (length out)) (sealing form key nonce ad t) s out r after
+    OpensBy (openCheck form (length key) (length nonce) t (length ad) (length s) (length out)) (openRuns form key nonce ad t s)
+    (sealing form key nonce ad t) s out r after

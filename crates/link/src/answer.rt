@@ -1,18 +1,18 @@
-// What a call comes back with, and its number and length.
+// What a call comes back with, and its number, its length and its runs: how many times the cipher ran (document 02, wish 6).
 ghost use mathlib.Core.Path.{_≡_};
-ghost use Rattle.link.specs.Answers.{numberOf, lengthOf};
+ghost use Rattle.link.specs.Answers.{numberOf, lengthOf, runsOf};
 
 pub enum Answer {
-    // Done, with the number of bytes written.
-    Done(usize),
-    // The refusals 1 to 8, in the order of their numbers.
+    // Done, with the number of bytes written, and how many times the cipher ran.
+    Done { length: usize, runs: usize },
+    // The refusals 1 to 8, in the order of their numbers. Of these the cipher has run for 7 alone.
     Key,
     Nonce,
     Tag,
     Data,
     Length,
     Room,
-    Forged,
+    Forged { runs: usize },
     Form,
 }
 
@@ -20,14 +20,14 @@ pub fn number(a: Answer) -> usize
     ensures { λ r. ⌜ r ≡ numberOf a ⌝ }
 {
     match a {
-        Answer::Done(_) => 0,
+        Answer::Done { length: _, runs: _ } => 0,
         Answer::Key => 1,
         Answer::Nonce => 2,
         Answer::Tag => 3,
         Answer::Data => 4,
         Answer::Length => 5,
         Answer::Room => 6,
-        Answer::Forged => 7,
+        Answer::Forged { runs: _ } => 7,
         Answer::Form => 8,
     }
 }
@@ -36,14 +36,30 @@ pub fn length(a: Answer) -> usize
     ensures { λ r. ⌜ r ≡ lengthOf a ⌝ }
 {
     match a {
-        Answer::Done(n) => n,
+        Answer::Done { length, runs: _ } => length,
         Answer::Key => 0,
         Answer::Nonce => 0,
         Answer::Tag => 0,
         Answer::Data => 0,
         Answer::Length => 0,
         Answer::Room => 0,
-        Answer::Forged => 0,
+        Answer::Forged { runs: _ } => 0,
+        Answer::Form => 0,
+    }
+}
+
+pub fn runs(a: Answer) -> usize
+    ensures { λ r. ⌜ r ≡ runsOf a ⌝ }
+{
+    match a {
+        Answer::Done { length: _, runs } => runs,
+        Answer::Key => 0,
+        Answer::Nonce => 0,
+        Answer::Tag => 0,
+        Answer::Data => 0,
+        Answer::Length => 0,
+        Answer::Room => 0,
+        Answer::Forged { runs } => runs,
         Answer::Form => 0,
     }
 }

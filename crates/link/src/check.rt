@@ -39,7 +39,7 @@ fn call_check(form: usize, key: usize, nonce: usize, tag: usize, ad: usize) -> A
     if 4096 < ad {
         return Answer::Data;
     }
-    Answer::Done(0)
+    Answer::Done { length: 0, runs: 0 }
 }
 
 pub fn seal_check(
@@ -63,7 +63,10 @@ pub fn seal_check(
     if room < message + tag {
         return Answer::Room;
     }
-    Answer::Done(message + tag)
+    Answer::Done {
+        length: message + tag,
+        runs: 0,
+    }
 }
 
 pub fn open_check(
@@ -87,5 +90,8 @@ pub fn open_check(
     if room < sealed - tag {
         return Answer::Room;
     }
-    Answer::Done(sealed - tag)
+    Answer::Done {
+        length: sealed - tag,
+        runs: 0,
+    }
 }

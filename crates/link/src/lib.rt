@@ -9,6 +9,7 @@ mod parameters;
 pub use answer::Answer;
 pub use answer::length;
 pub use answer::number;
+pub use answer::runs;
 pub use parameters::Parameters;
 
 pub fn seal(
@@ -39,8 +40,11 @@ pub fn seal(
     let nr = keys.rounds;
     let w = keys.words;
     let tables = tables::joined();
-    passes::seal(form, &tables, &w, nr, nonce, ad, message, tag, out);
-    answer
+    let ran = passes::seal(form, &tables, &w, nr, nonce, ad, message, tag, out);
+    Answer::Done {
+        length: length(answer),
+        runs: ran,
+    }
 }
 
 pub fn open(
@@ -71,8 +75,13 @@ pub fn open(
     let nr = keys.rounds;
     let w = keys.words;
     let tables = tables::joined();
-    if passes::open(form, &tables, &w, nr, nonce, ad, sealed, tag, out) {
-        return answer;
+    let opening = passes::open(form, &tables, &w, nr, nonce, ad, sealed, tag, out);
+    let ran = opening.runs;
+    if opening.matches {
+        return Answer::Done {
+            length: length(answer),
+            runs: ran,
+        };
     }
-    Answer::Forged
+    Answer::Forged { runs: ran }
 }

@@ -1,11 +1,11 @@
 -- The definitions computed: the nonce block, held to rows W8 to W10 of document 01 and to document 02's wish 5; and all of them over a
--- small stand-in cipher, held to what the second program gives. Assumes nothing.
+-- small stand-in cipher, held to what the second program gives and to how many times its cipher ran. Assumes nothing.
 use mathlib.Core.Path.{_≡_, refl}
 use mathlib.Core.Bool.{Bool, true, false}
 use mathlib.Core.List.{List, [], _∷_, map, zipWith}
 use Prim.Native.Nat.{ℕ, zero, suc, _+_, _*_, _%_}
 use lib.Dec.{eqb}
-use lib.ListN.{getD}
+use lib.ListN.{length, getD}
 use Rattle.lists.specs.Hex.{bytes}
 use Rattle.lists.specs.Table.{table, tableFrom}
 use Rattle.lists.specs.Xor.{xor}
@@ -13,10 +13,10 @@ use Rattle.lists.specs.Zeros.{zeros}
 use Rattle.block.specs.Block.{pad, shift, double}
 use Rattle.mode.specs.Form.{formOf}
 use Rattle.mode.specs.Masks.{doubles}
-use Rattle.mode.specs.Message.{blocks, pairsOf, even, short, sum, pairs, body, checksum, te}
-use Rattle.mode.specs.Data.{dataSum, chain, ta}
+use Rattle.mode.specs.Message.{blocks, pairsOf, even, short, sum, pairs, pairsInputs, body, bodyInputs, checksum, te}
+use Rattle.mode.specs.Data.{dataSum, sumInputs, chain, chainInputs, ta, taInputs}
 use Rattle.mode.specs.Nonce.{format}
-use Rattle.mode.specs.Sealing.{tag, sealed, otr}
+use Rattle.mode.specs.Sealing.{tag, sealed, sealedInputs, otr, otrInputs}
 use Rattle.mode.proofs.Expected.{Row, expected}
 
 -- W8, W9 and W10
@@ -38,19 +38,23 @@ nonces-of-15 = refl
 pub standIn : List ℕ → List ℕ
 standIn b = table (λ i. (5 * getD b i 0 + 3 * getD b ((i + 1) % 16) 0 + 7 * i + 11) % 256) 16
 
--- the row, sealed: byte i of the message is 7i + 3, of the data 11i + 5, of the nonce 13i + 1
-pub computed : Row → List ℕ
-computed (f, m, a, k, t, x) =
-    otr standIn (formOf f) (table (λ i. (13 * i + 1) % 256) k) (table (λ i. (11 * i + 5) % 256) a) t (table (λ i. (7 * i + 3) % 256) m)
+-- the row, sealed, and the number of blocks handed to the cipher: byte i of the message is 7i + 3, of the data 11i + 5, of the nonce
+-- 13i + 1
+pub computed : Row → ℕ × List ℕ
+computed (f, m, a, k, t, n, x) =
+    let nonce = table (λ i. (13 * i + 1) % 256) k in
+    let ad = table (λ i. (11 * i + 5) % 256) a in
+    let message = table (λ i. (7 * i + 3) % 256) m in
+    (length (otrInputs standIn (formOf f) nonce ad t message), otr standIn (formOf f) nonce ad t message)
 
-pub given : Row → List ℕ
-given (f, m, a, k, t, x) = bytes (m + t) x
+pub given : Row → ℕ × List ℕ
+given (f, m, a, k, t, n, x) = (n, bytes (m + t) x)
 
 -- the rows of one kind: parallel, serial without data, serial with data
 abbrev pub kind : Row → ℕ
-kind (zero, m, a, k, t, x) = 0
-kind (suc f, m, zero, k, t, x) = 1
-kind (suc f, m, suc a, k, t, x) = 2
+kind (zero, m, a, k, t, n, x) = 0
+kind (suc f, m, zero, k, t, n, x) = 1
+kind (suc f, m, suc a, k, t, n, x) = 2
 
 abbrev pub keep : Bool → Row → List Row → List Row
 keep true row others = row ∷ others
@@ -61,13 +65,13 @@ of i [] = []
 of i (row ∷ others) = keep (eqb (kind row) i) row (of i others)
 
 pub parallel-rows : map computed (of 0 expected) ≡ map given (of 0 expected)
-unfolding of computed given standIn tableFrom xor zeros pad shift double doubles blocks pairsOf even short sum pairs body checksum te dataSum chain ta zipWith format tag sealed
+unfolding of computed given standIn tableFrom xor zeros pad shift double doubles blocks pairsOf even short sum pairs pairsInputs body bodyInputs checksum te dataSum sumInputs chain chainInputs ta taInputs zipWith format tag sealed sealedInputs
 parallel-rows = refl
 
 pub serial-rows-without-data : map computed (of 1 expected) ≡ map given (of 1 expected)
-unfolding of computed given standIn tableFrom xor zeros pad shift double doubles blocks pairsOf even short sum pairs body checksum te dataSum chain ta zipWith format tag sealed
+unfolding of computed given standIn tableFrom xor zeros pad shift double doubles blocks pairsOf even short sum pairs pairsInputs body bodyInputs checksum te dataSum sumInputs chain chainInputs ta taInputs zipWith format tag sealed sealedInputs
 serial-rows-without-data = refl
 
 pub serial-rows-with-data : map computed (of 2 expected) ≡ map given (of 2 expected)
-unfolding of computed given standIn tableFrom xor zeros pad shift double doubles blocks pairsOf even short sum pairs body checksum te dataSum chain ta zipWith format tag sealed
+unfolding of computed given standIn tableFrom xor zeros pad shift double doubles blocks pairsOf even short sum pairs pairsInputs body bodyInputs checksum te dataSum sumInputs chain chainInputs ta taInputs zipWith format tag sealed sealedInputs
 serial-rows-with-data = refl

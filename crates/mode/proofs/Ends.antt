@@ -117,6 +117,10 @@ module _ (E : List ℕ → List ℕ) (e : IsCipher E) (l r : List ℕ) (hl : len
     last-again =
         ap₂ (half E l) (two-take f g length-f g-part) (two-drop f g length-f g-part) ∙ back-last f (drop 16 x) length-f last-part
 
+    pub first-undone : take 16 (unending E true l r x) ≡ first E r x
+    unfolding f g
+    first-undone = two-take f g length-f g-part
+
     sum-two : endSum E true l (f ++ g) ≡ undoneSum E true l r x
     unfolding f g
     sum-two = ap₂ (λ (a b : List ℕ). xor (E (xor l a)) (pad b)) (two-take f g length-f g-part) last-again

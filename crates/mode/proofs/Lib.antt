@@ -11,3 +11,5 @@ pub mod Format
 pub mod Form
 pub mod Data
 pub mod Third
+pub mod Runs
+pub mod Inputs

@@ -67,6 +67,11 @@ module _ (E : List ℕ → List ℕ) (e : IsCipher E) (k : Masks) (s : AreMasks 
   unbody-parts =
       ap (λ (u : Bool). pairs E (swapped k) (pairsOf (length c)) c ++ unending E u (l E k c) (r E k c) (rest c)) h
 
+  -- what remains of it is the end undone
+  pub rest-undone : drop (32 * pairsOf (length c)) (unbody E k c) ≡ unending E t (l E k c) (r E k c) (rest c)
+  unfolding n front end
+  rest-undone = ap (drop (32 * n)) unbody-parts ∙ drop-at front end (32 * n) front-long
+
   left-over : Remains t (rest c)
   left-over = subst (λ (u : Bool). Remains u (rest c)) h (remains c)
 
@@ -77,7 +82,7 @@ module _ (E : List ℕ → List ℕ) (e : IsCipher E) (k : Masks) (s : AreMasks 
   te-undone =
       te-parts E k t m (ap even long ∙ h)
       ∙ ap (λ (b : ℕ). teOf E k t (length (drop (32 * pairsOf b) m)) (pairsOf b) (sum (pairsOf b) m) (endSum E t (k .left (pairsOf b)) (drop (32 * pairsOf b) m))) long
-      ∙ ap₂ (λ (x y : List ℕ). teOf E k t (length x) n y (endSum E t (k .left n) x)) behind before
+      ∙ ap₂ (λ (x y : List ℕ). teOf E k t (length x) n y (endSum E t (k .left n) x)) rest-undone before
       ∙ ap₂ (λ (b : ℕ) (x : List ℕ). teOf E k t b n (sum n front) x)
       (length-unending E e (k .left n) (k .right n) (s .left n) (s .right n) t (rest c) left-over)
       (undone-sum E e (k .left n) (k .right n) (s .left n) (s .right n) t (rest c) left-over)
@@ -87,9 +92,6 @@ module _ (E : List ℕ → List ℕ) (e : IsCipher E) (k : Masks) (s : AreMasks 
 
       long : length m ≡ length c
       long = length-unbody E e k s c
-
-      behind : drop (32 * n) m ≡ end
-      behind = ap (drop (32 * n)) unbody-parts ∙ drop-at front end (32 * n) front-long
 
       before : sum n m ≡ sum n front
       before = ap (sum n) unbody-parts ∙ sum-front n front end (omega (arith, front-long))

@@ -1,7 +1,8 @@
 -- The associated data pass in both forms (document 01; source document 000, Fig. 1, AF, and Fig. 3, AF-S), over any cipher E and any
--- first Q, here q; in both figures, line 2, it is E(0ⁿ).
+-- first Q, here q; in both figures, line 2, it is E(0ⁿ). Beside what a step gives stand its inputs, the blocks that it hands to the
+-- cipher, as in the message pass.
 use mathlib.Core.Bool.{Bool, true, false}
-use mathlib.Core.List.{List, [], _∷_}
+use mathlib.Core.List.{List, [], _∷_, _++_}
 use Prim.Native.Nat.{ℕ, zero, suc, _-_, _*_}
 use lib.Dec.{ltb}
 use lib.ListN.{length, drop}
@@ -12,10 +13,11 @@ use Rattle.mode.specs.Form.{Form, parallel, serial}
 use Rattle.mode.specs.Masks.{doubles}
 use Rattle.mode.specs.Message.{blocks, block}
 
--- what a form says of the pass: Ξ behind the first n blocks of the data, and the mask of a last block behind those, by whether it is
--- short
+-- what a form says of the pass: Ξ behind the first n blocks of the data, the blocks that those hand to the cipher, and the mask of a
+-- last block behind them, by whether it is short
 pub record DataPass : Type 0 where
   pub xi : ℕ → List ℕ → List ℕ
+  pub inputs : ℕ → List ℕ → List (List ℕ)
   pub mask : ℕ → Bool → List ℕ
 
 -- ---- parallel (AF)
@@ -29,6 +31,10 @@ unfoldable pub dataSum : (List ℕ → List ℕ) → List ℕ → ℕ → List �
 dataSum E q zero a = zeros 16
 dataSum E q (suc n) a = xor (dataSum E q n a) (E (xor (doubles n q) (block a (16 * n))))
 
+unfoldable pub sumInputs : List ℕ → ℕ → List ℕ → List (List ℕ)
+sumInputs q zero a = []
+sumInputs q (suc n) a = sumInputs q n a ++ (xor (doubles n q) (block a (16 * n)) ∷ [])
+
 -- ---- serial (AF-S)
 -- lines 7 and 8: 2Q for a short last block, 4Q for a full one
 abbrev pub chainFinal : Bool → List ℕ → List ℕ
@@ -40,18 +46,37 @@ unfoldable pub chain : (List ℕ → List ℕ) → ℕ → List ℕ → List ℕ
 chain E zero a = zeros 16
 chain E (suc n) a = E (xor (block a (16 * n)) (chain E n a))
 
+unfoldable pub chainInputs : (List ℕ → List ℕ) → ℕ → List ℕ → List (List ℕ)
+chainInputs E zero a = []
+chainInputs E (suc n) a = chainInputs E n a ++ (xor (block a (16 * n)) (chain E n a) ∷ [])
+
 -- ---- either
 abbrev pub dataPass : (List ℕ → List ℕ) → List ℕ → Form → DataPass
-dataPass E q parallel = record { xi = dataSum E q; mask = λ n s. dataFinal s (doubles n q) }
-dataPass E q serial = record { xi = chain E; mask = λ n s. chainFinal s q }
+dataPass E q parallel = record { xi = dataSum E q; inputs = sumInputs q; mask = λ n s. dataFinal s (doubles n q) }
+dataPass E q serial = record { xi = chain E; inputs = chainInputs E; mask = λ n s. chainFinal s q }
 
 module _ (E : List ℕ → List ℕ) (d : DataPass) where
-  -- AF, lines 7 to 10; AF-S, lines 6 to 9: n blocks, and a last block x
+  -- AF, lines 7 to 10; AF-S, lines 6 to 9: n blocks, and a last block x; what is handed to the cipher, and what comes out
+  abbrev pub dataLast : ℕ → List ℕ → List ℕ → List ℕ
+  dataLast n a x = xor (d .mask n (ltb (length x) 16)) (xor (d .xi n a) (pad x))
+
   abbrev pub dataEnd : ℕ → List ℕ → List ℕ → List ℕ
-  dataEnd n a x = E (xor (d .mask n (ltb (length x) 16)) (xor (d .xi n a) (pad x)))
+  dataEnd n a x = E (dataLast n a x)
 
   -- TA; empty data gives zeros, and no block is ciphered (OTR-E, Fig. 1, lines 2 and 3; Fig. 3, lines 1 and 2)
   unfoldable pub ta : List ℕ → List ℕ
   ta [] = zeros 16
   ta (b ∷ bs) =
       dataEnd (blocks (length (b ∷ bs)) - 1) (b ∷ bs) (drop (16 * (blocks (length (b ∷ bs)) - 1)) (b ∷ bs))
+
+  abbrev pub endInputs : ℕ → List ℕ → List (List ℕ)
+  endInputs n a = d .inputs n a ++ (dataLast n a (drop (16 * n) a) ∷ [])
+
+  unfoldable pub taInputs : List ℕ → List (List ℕ)
+  taInputs [] = []
+  taInputs (b ∷ bs) = endInputs (blocks (length (b ∷ bs)) - 1) (b ∷ bs)
+
+-- the first Q, line 2 of both: the zero block, where there is data
+abbrev pub qInputs : List ℕ → List (List ℕ)
+qInputs [] = []
+qInputs (b ∷ bs) = zeros 16 ∷ []

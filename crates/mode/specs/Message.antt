@@ -1,7 +1,8 @@
 -- The message pass (document 01; source document 000, Fig. 1, EF), over any cipher E and any masks. Fig. 3's EF-S is the same behind U;
--- what is line n here is its line n + 1, from line 3 on.
+-- what is line n here is its line n + 1, from line 3 on. Beside what a step gives stand its inputs: the blocks that it hands to the
+-- cipher, in their order (document 02, wish 6).
 use mathlib.Core.Bool.{Bool, true, false}
-use mathlib.Core.List.{List, [], _++_}
+use mathlib.Core.List.{List, [], _∷_, _++_}
 use Prim.Native.Nat.{ℕ, zero, suc, _+_, _-_, _*_, _/_, _%_, max}
 use lib.Dec.{eqb, ltb}
 use lib.ListN.{length, take, drop}
@@ -52,14 +53,25 @@ abbrev pub final : Masks → Bool → List ℕ → List ℕ
 final k true b = k .ifShort b
 final k false b = k .ifFull b
 
+-- line 16 with a last block x: where it has no byte there is nothing to mask, and E(L) is not run
+abbrev pub oneInputs : List ℕ → List ℕ → List (List ℕ)
+oneInputs l [] = []
+oneInputs l (b ∷ bs) = l ∷ []
+
 module _ (E : List ℕ → List ℕ) where
   -- E(l ⊕ x) ⊕ y, as long as y where y is a part block
   abbrev pub half : List ℕ → List ℕ → List ℕ → List ℕ
   half l x y = xor y (E (xor l x))
 
+  abbrev pub halfInputs : List ℕ → List ℕ → List (List ℕ)
+  halfInputs l x = xor l x ∷ []
+
   -- lines 5 and 6: the cipher blocks of a pair p, q with the masks l, r
   abbrev pub pair : List ℕ → List ℕ → List ℕ → List ℕ → List ℕ
   pair l r p q = half l p q ++ half r (half l p q) p
+
+  abbrev pub pairInputs : List ℕ → List ℕ → List ℕ → List ℕ → List (List ℕ)
+  pairInputs l r p q = halfInputs l p ++ halfInputs r (half l p q)
 
   -- ---- what remains, x, with the masks l, r: for even m a full block and one of 1 to 16 bytes, for odd m one of 0 to 16
   -- lines 10 and 11: Z, and the last cipher block
@@ -74,6 +86,10 @@ module _ (E : List ℕ → List ℕ) where
   ending true l r x = half r (pad (last l x)) (take 16 x) ++ last l x
   ending false l r x = xor x (E l)
 
+  abbrev pub endingInputs : Bool → List ℕ → List ℕ → List ℕ → List (List ℕ)
+  endingInputs true l r x = halfInputs l (take 16 x) ++ halfInputs r (pad (last l x))
+  endingInputs false l r x = oneInputs l x
+
   -- lines 13 and 17: what goes into the checksum
   abbrev pub endSum : Bool → List ℕ → List ℕ → List ℕ
   endSum true l x = xor (z l x) (pad (last l x))
@@ -85,6 +101,10 @@ module _ (E : List ℕ → List ℕ) (k : Masks) where
   pairs zero m = []
   pairs (suc n) m = pairs n m ++ pair E (k .left n) (k .right n) (block m (32 * n)) (block m (32 * n + 16))
 
+  unfoldable pub pairsInputs : ℕ → List ℕ → List (List ℕ)
+  pairsInputs zero m = []
+  pairsInputs (suc n) m = pairsInputs n m ++ pairInputs E (k .left n) (k .right n) (block m (32 * n)) (block m (32 * n + 16))
+
   -- ---- the ciphertext, the checksum and TE, with L and L′ behind the pairs
   abbrev pub l : List ℕ → List ℕ
   l m = k .left (pairsOf (length m))
@@ -95,8 +115,14 @@ module _ (E : List ℕ → List ℕ) (k : Masks) where
   unfoldable pub body : List ℕ → List ℕ
   body m = pairs (pairsOf (length m)) m ++ ending E (even (length m)) (l m) (r m) (rest m)
 
+  unfoldable pub bodyInputs : List ℕ → List (List ℕ)
+  bodyInputs m = pairsInputs (pairsOf (length m)) m ++ endingInputs E (even (length m)) (l m) (r m) (rest m)
+
   unfoldable pub checksum : List ℕ → List ℕ
   checksum m = xor (sum (pairsOf (length m)) m) (endSum E (even (length m)) (l m) (rest m))
 
+  abbrev pub teInput : List ℕ → List ℕ
+  teInput m = xor (final k (short m) (base (even (length m)) (l m) (r m))) (checksum m)
+
   unfoldable pub te : List ℕ → List ℕ
-  te m = E (xor (final k (short m) (base (even (length m)) (l m) (r m))) (checksum m))
+  te m = E (teInput m)

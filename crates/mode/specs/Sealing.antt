@@ -1,5 +1,5 @@
 -- What sealing gives: the ciphertext, and the tag behind it (source document 000, OTR-E in Fig. 1 and Fig. 3).
-use mathlib.Core.List.{List, _++_}
+use mathlib.Core.List.{List, [], _∷_, _++_}
 use Prim.Native.Nat.{ℕ}
 use lib.ListN.{take}
 use Rattle.lists.specs.Xor.{xor}
@@ -7,8 +7,8 @@ use Rattle.lists.specs.Zeros.{zeros}
 use Rattle.block.specs.Block.{double}
 use Rattle.mode.specs.Form.{Form, parallel, serial}
 use Rattle.mode.specs.Masks.{Masks, third}
-use Rattle.mode.specs.Message.{body, te}
-use Rattle.mode.specs.Data.{dataPass, ta}
+use Rattle.mode.specs.Message.{body, te, bodyInputs, teInput}
+use Rattle.mode.specs.Data.{dataPass, ta, qInputs, taInputs}
 use Rattle.mode.specs.Nonce.{format}
 
 -- over any cipher E, any masks k, and any a that goes into the tag: a tag of t bytes for the message m
@@ -18,6 +18,10 @@ module _ (E : List ℕ → List ℕ) (k : Masks) (a : List ℕ) (t : ℕ) where
 
   unfoldable pub sealed : List ℕ → List ℕ
   sealed m = body E k m ++ tag m
+
+-- the blocks that this hands to the cipher, whatever a and t are
+unfoldable pub sealedInputs : (List ℕ → List ℕ) → Masks → List ℕ → List (List ℕ)
+sealedInputs E k m = bodyInputs E k m ++ (teInput E k m ∷ [])
 
 -- ---- what a form seals with, from v = E(Format(τ, N)) and a = TA
 -- U (Fig. 1, EF, line 2; Fig. 3, EF-S, line 2)
@@ -31,9 +35,12 @@ intoTag parallel a = a
 intoTag serial a = zeros 16
 
 -- ---- AES-OTR v3.1, over any cipher E
--- TA of the associated data, in the form f
+-- TA of the associated data, in the form f, and the blocks that it hands to the cipher, from its first Q on
 abbrev pub dataTag : (List ℕ → List ℕ) → Form → List ℕ → List ℕ
 dataTag E f ad = ta E (dataPass E (E (zeros 16)) f) ad
+
+abbrev pub dataInputs : (List ℕ → List ℕ) → Form → List ℕ → List (List ℕ)
+dataInputs E f ad = qInputs ad ++ taInputs E (dataPass E (E (zeros 16)) f) ad
 
 -- for form, nonce, associated data and tag length: U, the masks, what goes into the tag, and what a message seals to
 module _ (E : List ℕ → List ℕ) (f : Form) (nonce ad : List ℕ) (t : ℕ) where
@@ -48,3 +55,10 @@ module _ (E : List ℕ → List ℕ) (f : Form) (nonce ad : List ℕ) (t : ℕ) 
 
   abbrev pub otr : List ℕ → List ℕ
   otr m = sealed E masks added t m
+
+  -- the blocks that a call hands to the cipher before its message pass, and all those that sealing does
+  abbrev pub callInputs : List (List ℕ)
+  callInputs = format t nonce ∷ dataInputs E f ad
+
+  abbrev pub otrInputs : List ℕ → List (List ℕ)
+  otrInputs m = callInputs ++ sealedInputs E masks m

@@ -1,6 +1,7 @@
--- How opening finds its answer. No promise needs this file: what opening promises is said by sealing alone (Opening.antt).
+-- How opening finds its answer. What that answer may be is said by sealing alone (Opening.antt); from this file the promise of opening
+-- takes no more than how many blocks are handed to the cipher.
 use mathlib.Core.Bool.{Bool, true, false}
-use mathlib.Core.List.{List, _++_}
+use mathlib.Core.List.{List, [], _∷_, _++_}
 use Prim.Native.Nat.{ℕ, _-_}
 use lib.ListN.{length, take, drop}
 use Rattle.lists.specs.Same.{same}
@@ -8,8 +9,8 @@ use Rattle.lists.specs.Xor.{xor}
 use Rattle.block.specs.Block.{pad}
 use Rattle.mode.specs.Form.{Form}
 use Rattle.mode.specs.Masks.{Masks}
-use Rattle.mode.specs.Message.{pairsOf, even, rest, half, pairs, l, r}
-use Rattle.mode.specs.Sealing.{tag, masks, added}
+use Rattle.mode.specs.Message.{pairsOf, even, rest, oneInputs, half, halfInputs, pairs, pairsInputs, l, r, teInput}
+use Rattle.mode.specs.Sealing.{tag, masks, added, callInputs}
 use Rattle.mode.specs.Opening.{Opened, accepted, refused}
 
 -- a pair is undone by the pair step with its masks exchanged
@@ -25,6 +26,10 @@ module _ (E : List ℕ → List ℕ) where
   unending true l r x = first r x ++ half E l (first r x) (drop 16 x)
   unending false l r x = xor x (E l)
 
+  abbrev pub unendingInputs : Bool → List ℕ → List ℕ → List ℕ → List (List ℕ)
+  unendingInputs true l r x = halfInputs E r (pad (drop 16 x)) ++ halfInputs E l (first r x)
+  unendingInputs false l r x = oneInputs l x
+
   -- what the recovered blocks put into the checksum
   abbrev pub undoneSum : Bool → List ℕ → List ℕ → List ℕ → List ℕ
   undoneSum true l r x = xor (E (xor l (first r x))) (pad (drop 16 x))
@@ -35,6 +40,15 @@ module _ (E : List ℕ → List ℕ) (k : Masks) where
   unbody c =
       pairs E (swapped k) (pairsOf (length c)) c
       ++ unending E (even (length c)) (l E k c) (r E k c) (rest c)
+
+  unfoldable pub unbodyInputs : List ℕ → List (List ℕ)
+  unbodyInputs c =
+      pairsInputs E (swapped k) (pairsOf (length c)) c
+      ++ unendingInputs E (even (length c)) (l E k c) (r E k c) (rest c)
+
+  -- and TE of what was recovered
+  unfoldable pub undoneInputs : List ℕ → List (List ℕ)
+  undoneInputs c = unbodyInputs c ++ (teInput E k (unbody c) ∷ [])
 
 abbrev pub answer : Bool → List ℕ → Opened
 answer true m = accepted m
@@ -51,3 +65,6 @@ module _ (E : List ℕ → List ℕ) (k : Masks) (a : List ℕ) (t : ℕ) where
 -- what a call of v3.1 finds, over any cipher E: form, nonce, associated data, tag length, sealed string
 abbrev pub found : (List ℕ → List ℕ) → Form → List ℕ → List ℕ → ℕ → List ℕ → Opened
 found E f nonce ad t s = opened E (masks E f nonce ad t) (added E f nonce ad t) t s
+
+abbrev pub foundInputs : (List ℕ → List ℕ) → Form → List ℕ → List ℕ → ℕ → List ℕ → List (List ℕ)
+foundInputs E f nonce ad t s = callInputs E f nonce ad t ++ undoneInputs E (masks E f nonce ad t) (take (length s - t) s)

@@ -1,5 +1,6 @@
 // The pairs of the message pass, and their checksum. One step serves both directions: opening calls it with the two masks exchanged.
-// w is the flat array of an expanded key, nr its round count, and table the four joined tables.
+// w is the flat array of an expanded key, nr its round count, and table the four joined tables. What runs the cipher says how many
+// times it did (document 02, wish 6).
 ghost use mathlib.Core.Path.{_≡_};
 ghost use mathlib.Core.List.{_++_};
 ghost use Prim.Native.Nat.{_+_, _*_, _≤_};
@@ -9,7 +10,19 @@ ghost use Rattle.tables.specs.Joined.{joined};
 ghost use Rattle.aes.specs.Cipher.{cipher};
 ghost use Rattle.block.specs.Wide.{bytesOf};
 ghost use Rattle.mode.specs.Masks.{doubles, doubled};
-ghost use Rattle.mode.specs.Message.{block as blockOf, half as halfOf, pair as pairOf, pairs as pairsOf, sum as sumOf};
+ghost use Rattle.mode.specs.Message.{block as blockOf, half as halfOf, halfInputs, pair as pairOf, pairInputs, pairs as pairsOf, pairsInputs, sum as sumOf};
+
+// A block, and how many times the cipher ran for it.
+pub struct Ran {
+    pub block: [u8; 16],
+    pub runs: usize,
+}
+
+// The same of a block as words.
+struct RanWords {
+    words: [u64; 2],
+    runs: usize,
+}
 
 // E(l ⊕ x) ⊕ y, as words.
 fn half_words(
@@ -19,14 +32,18 @@ fn half_words(
     l: [u64; 2],
     x: [u64; 2],
     y: [u64; 2],
-) -> [u64; 2]
+) -> RanWords
     requires { ⌜ now table ≡ joined ⌝ }
     requires { ⌜ (10 ≤ nr) × (nr ≤ 14) ⌝ }
-    ensures { λ a. ⌜ bytesOf a ≡ halfOf (cipher nr (now (w .entry))) (bytesOf l) (bytesOf x) (bytesOf y) ⌝ }
+    ensures { λ a. ⌜ bytesOf (a .words) ≡ halfOf (cipher nr (now (w .entry))) (bytesOf l) (bytesOf x) (bytesOf y) ⌝ }
+    ensures { λ a. ⌜ a .runs ≡ length (halfInputs (cipher nr (now (w .entry))) (bytesOf l) (bytesOf x)) ⌝ }
 {
     let inner = block::from_words(block::xor_words(l, x));
     let e = block::to_words(joined::encrypt(table, w, nr, inner));
-    block::xor_words(y, e)
+    RanWords {
+        words: block::xor_words(y, e),
+        runs: 1,
+    }
 }
 
 // E(l ⊕ x) ⊕ y.
@@ -37,14 +54,18 @@ pub fn half(
     l: [u8; 16],
     x: [u8; 16],
     y: [u8; 16],
-) -> [u8; 16]
+) -> Ran
     requires { ⌜ now table ≡ joined ⌝ }
     requires { ⌜ (10 ≤ nr) × (nr ≤ 14) ⌝ }
-    ensures { λ a. ⌜ a ≡ halfOf (cipher nr (now (w .entry))) l x y ⌝ }
+    ensures { λ a. ⌜ a .block ≡ halfOf (cipher nr (now (w .entry))) l x y ⌝ }
+    ensures { λ a. ⌜ a .runs ≡ length (halfInputs (cipher nr (now (w .entry))) l x) ⌝ }
 {
     let inner = block::xor(l, x);
     let e = joined::encrypt(table, w, nr, inner);
-    block::xor(y, e)
+    Ran {
+        block: block::xor(y, e),
+        runs: 1,
+    }
 }
 
 // A block, and directly behind it the first n bytes of another, into out from place at on.
@@ -88,17 +109,21 @@ fn pair(
     src: &[u8],
     at: usize,
     out: &mut [u8],
-)
+) -> usize
     requires { ⌜ now table ≡ joined ⌝ }
     requires { ⌜ (10 ≤ nr) × (nr ≤ 14) ⌝ }
     requires { ⌜ (at + 32 ≤ length (now src)) × (at + 32 ≤ length (now out)) ⌝ }
     ensures { λ _. ⌜ now (out .exit) ≡ lay at (pairOf (cipher nr (now (w .entry))) (bytesOf l) (bytesOf r) (blockOf (now (src .entry)) at) (blockOf (now (src .entry)) (at + 16))) (now (out .entry)) ⌝ }
+    ensures { λ n. ⌜ n ≡ length (pairInputs (cipher nr (now (w .entry))) (bytesOf l) (bytesOf r) (blockOf (now (src .entry)) at) (blockOf (now (src .entry)) (at + 16))) ⌝ }
 {
     let p = read_words(src, at);
     let q = read_words(src, at + 16);
     let first = half_words(table, w, nr, l, p, q);
-    let second = half_words(table, w, nr, r, first, p);
-    put_pair(out, at, first, second);
+    let c = first.words;
+    let second = half_words(table, w, nr, r, c, p);
+    let d = second.words;
+    put_pair(out, at, c, d);
+    first.runs + second.runs
 }
 
 // The same, and the pair behind it with the masks next_l and next_r. No cipher waits for what the one before it gives, so that a
@@ -114,11 +139,12 @@ fn two_pairs(
     src: &[u8],
     at: usize,
     out: &mut [u8],
-)
+) -> usize
     requires { ⌜ now table ≡ joined ⌝ }
     requires { ⌜ (10 ≤ nr) × (nr ≤ 14) ⌝ }
     requires { ⌜ (at + 64 ≤ length (now src)) × (at + 64 ≤ length (now out)) ⌝ }
     ensures { λ _. ⌜ now (out .exit) ≡ lay (at + 32) (pairOf (cipher nr (now (w .entry))) (bytesOf «next_l») (bytesOf «next_r») (blockOf (now (src .entry)) (at + 32)) (blockOf (now (src .entry)) (at + 48))) (lay at (pairOf (cipher nr (now (w .entry))) (bytesOf l) (bytesOf r) (blockOf (now (src .entry)) at) (blockOf (now (src .entry)) (at + 16))) (now (out .entry))) ⌝ }
+    ensures { λ n. ⌜ n ≡ length (pairInputs (cipher nr (now (w .entry))) (bytesOf l) (bytesOf r) (blockOf (now (src .entry)) at) (blockOf (now (src .entry)) (at + 16))) + length (pairInputs (cipher nr (now (w .entry))) (bytesOf «next_l») (bytesOf «next_r») (blockOf (now (src .entry)) (at + 32)) (blockOf (now (src .entry)) (at + 48))) ⌝ }
 {
     let p = read_words(src, at);
     let q = read_words(src, at + 16);
@@ -126,27 +152,36 @@ fn two_pairs(
     let next_q = read_words(src, at + 48);
     let first = half_words(table, w, nr, l, p, q);
     let next_first = half_words(table, w, nr, next_l, next_p, next_q);
-    let second = half_words(table, w, nr, r, first, p);
-    let next_second = half_words(table, w, nr, next_r, next_first, next_p);
-    put_pair(out, at, first, second);
-    put_pair(out, at + 32, next_first, next_second);
+    let c = first.words;
+    let next_c = next_first.words;
+    let second = half_words(table, w, nr, r, c, p);
+    let next_second = half_words(table, w, nr, next_r, next_c, next_p);
+    let d = second.words;
+    let next_d = next_second.words;
+    put_pair(out, at, c, d);
+    put_pair(out, at + 32, next_c, next_d);
+    first.runs + second.runs + (next_first.runs + next_second.runs)
 }
 
-pub struct MaskPair {
+// What stands behind the pairs: the masks, and how many times the cipher ran for them.
+pub struct AfterPairs {
     pub left: [u8; 16],
     pub right: [u8; 16],
+    pub runs: usize,
 }
 
-fn mask_pair(left: [u64; 2], right: [u64; 2]) -> MaskPair
+fn after_pairs(left: [u64; 2], right: [u64; 2], runs: usize) -> AfterPairs
     ensures { λ a. ⌜ (a .left ≡ bytesOf left) × (a .right ≡ bytesOf right) ⌝ }
+    ensures { λ a. ⌜ a .runs ≡ runs ⌝ }
 {
-    MaskPair {
+    AfterPairs {
         left: block::from_words(left),
         right: block::from_words(right),
+        runs: runs,
     }
 }
 
-// The first n pairs of src into out, from the masks l and r on. What comes back are the masks behind them.
+// The first n pairs of src into out, from the masks l and r on.
 pub fn pairs(
     table: &[u32; 1024],
     w: &[u8; 240],
@@ -156,31 +191,36 @@ pub fn pairs(
     src: &[u8],
     n: usize,
     out: &mut [u8],
-) -> MaskPair
+) -> AfterPairs
     requires { ⌜ now table ≡ joined ⌝ }
     requires { ⌜ (10 ≤ nr) × (nr ≤ 14) ⌝ }
     requires { ⌜ (32 * n ≤ length (now src)) × (32 * n ≤ length (now out)) ⌝ }
     ensures { λ a. ⌜ now (out .exit) ≡ lay 0 (pairsOf (cipher nr (now (w .entry))) (doubled l r) n (now (src .entry))) (now (out .entry)) ⌝ }
     ensures { λ a. ⌜ (a .left ≡ doubles n l) × (a .right ≡ doubles n r) ⌝ }
+    ensures { λ a. ⌜ a .runs ≡ length (pairsInputs (cipher nr (now (w .entry))) (doubled l r) n (now (src .entry))) ⌝ }
 {
     let mut left = block::to_words(l);
     let mut right = block::to_words(r);
+    let mut runs: usize = 0;
     let mut i = 0;
     while i + 1 < n {
         let next_l = block::double_words(left);
         let next_r = block::double_words(right);
-        two_pairs(table, w, nr, left, right, next_l, next_r, src, 32 * i, out);
+        let two = two_pairs(table, w, nr, left, right, next_l, next_r, src, 32 * i, out);
         let a = block::double_words(next_l);
         let b = block::double_words(next_r);
         left = a;
         right = b;
+        runs += two;
         i += 2;
     }
     if i < n {
-        pair(table, w, nr, left, right, src, 32 * i, out);
-        return mask_pair(block::double_words(left), block::double_words(right));
+        let one = pair(table, w, nr, left, right, src, 32 * i, out);
+        let a = block::double_words(left);
+        let b = block::double_words(right);
+        return after_pairs(a, b, runs + one);
     }
-    mask_pair(left, right)
+    after_pairs(left, right, runs)
 }
 
 // The even blocks of the first n pairs of a message.

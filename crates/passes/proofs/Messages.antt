@@ -1,9 +1,9 @@
 -- The message pass as the code puts it together, with the number of pairs n and the masks L and R that it has computed. Assumes
 -- nothing.
-use mathlib.Core.Path.{_≡_, refl, sym, ap, ap₂, _∙_}
+use mathlib.Core.Path.{_≡_, refl, sym, ap, ap₂, subst, _∙_}
 use mathlib.Core.Bool.{Bool, true, false}
 use mathlib.Core.List.{List, _++_}
-use Prim.Native.Nat.{ℕ, _+_, _-_, _*_, _≤_}
+use Prim.Native.Nat.{ℕ, _+_, _-_, _*_, _/_, _≤_}
 use native.Mathlib.Omega.{arith}
 use lib.Dec.{ltb}
 use lib.ListN.{length, drop, length-drop}
@@ -14,9 +14,9 @@ use Rattle.block.specs.Block.{triple}
 use Rattle.mode.specs.Masks.{Masks, IsCipher, AreMasks, doubles, doubled, third}
 use Rattle.mode.specs.Message.{pairsOf, even, rest, lastLength, sum, base, final, pairs, ending, endSum, l, r, body, te}
 use Rattle.mode.specs.Undoing.{swapped, unending, undoneSum, unbody}
-use Rattle.mode.proofs.Counts.{pairs-within, even-is, even-left}
+use Rattle.mode.proofs.Counts.{pairs-are, pairs-within, even-is, even-left}
 use Rattle.mode.proofs.Pairs.{swapped-masks, length-pairs}
-use Rattle.mode.proofs.Ends.{length-ending, length-unending}
+use Rattle.mode.proofs.Ends.{Remains, length-ending, length-unending}
 use Rattle.mode.proofs.Walk.{remains}
 use Rattle.mode.proofs.Parts.{teOf, body-parts, te-parts, unbody-parts, te-undone, sum-front}
 
@@ -25,6 +25,19 @@ pub final-same : (a b : List ℕ) (t : Bool) (x : List ℕ) → final (third a) 
 final-same a b true x = refl
 final-same a b false x = refl
 
+-- ---- how often the cipher runs
+module _ (m : List ℕ) (n : ℕ) (hn : n ≡ pairsOf (length m)) where
+  -- one block or two remain behind the pairs
+  pub remains-behind : Remains (ltb (32 * n + 16) (length m)) (drop (32 * n) m)
+  remains-behind =
+      subst (λ (i : ℕ). Remains (ltb (32 * i + 16) (length m)) (drop (32 * i) m)) (sym hn)
+      (subst (λ (t : Bool). Remains t (rest m)) (even-is (length m)) (remains m))
+
+  -- twice a pair, once for each block behind them, and once for TE
+  pub all-runs : (p e t : ℕ) → p ≡ 2 * n → e ≡ (length (drop (32 * n) m) + 15) / 16 → t ≡ 1 → p + e + t ≡ (length m + 15) / 16 + 1
+  all-runs p e t hp he ht = omega (arith, hn, hp, he, ht, length-drop (32 * n) m, pairs-are (length m))
+
+-- ---- what is written
 -- an end laid directly behind the pairs
 behind : (p x out : List ℕ) (n : ℕ) → length p ≡ 32 * n → 32 * n + length x ≤ length out → lay (32 * n) x (lay 0 p out) ≡ lay 0 (p ++ x) out
 behind p x out n h fits =

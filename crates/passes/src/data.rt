@@ -6,18 +6,26 @@ ghost use lib.ListN.{length};
 ghost use Rattle.lists.specs.Zeros.{zeros};
 ghost use Rattle.tables.specs.Joined.{joined};
 ghost use Rattle.aes.specs.Cipher.{cipher};
-ghost use Rattle.mode.specs.Data.{DataPass, ta as taOf};
+ghost use Rattle.mode.specs.Data.{DataPass, ta as taOf, qInputs, taInputs};
+use pairs::Ran;
 
 // The first Q, E of the zero block. It is needed only where there is data, and ciphered only there.
-pub fn first_q(table: &[u32; 1024], w: &[u8; 240], nr: usize, a: &[u8]) -> [u8; 16]
+pub fn first_q(table: &[u32; 1024], w: &[u8; 240], nr: usize, a: &[u8]) -> Ran
     requires { ⌜ now table ≡ joined ⌝ }
     requires { ⌜ (10 ≤ nr) × (nr ≤ 14) ⌝ }
-    ensures { λ r. ⌜ (1 ≤ length (now (a .entry)) → r ≡ cipher nr (now (w .entry)) (zeros 16)) ⌝ }
+    ensures { λ r. ⌜ (1 ≤ length (now (a .entry)) → r .block ≡ cipher nr (now (w .entry)) (zeros 16)) ⌝ }
+    ensures { λ r. ⌜ r .runs ≡ length (qInputs (now (a .entry))) ⌝ }
 {
     if a.len() == 0 {
-        return block::zeros();
+        return Ran {
+            block: block::zeros(),
+            runs: 0,
+        };
     }
-    joined::encrypt(table, w, nr, block::zeros())
+    Ran {
+        block: joined::encrypt(table, w, nr, block::zeros()),
+        runs: 1,
+    }
 }
 
 // The number of blocks before the last, for data of so many bytes; 0 for none.
@@ -30,7 +38,8 @@ pub fn before_last(bytes: usize) -> usize
     (bytes - 1) / 16
 }
 
-// TA of a, from the last block's mask and from what the n blocks before it come to, xi; whichever pass d has these.
+// TA of a, from the last block's mask and from what the n blocks before it come to, xi, for which the cipher ran so many times;
+// whichever pass d has these.
 pub fn ta(
     table: &[u32; 1024],
     w: &[u8; 240],
@@ -39,17 +48,25 @@ pub fn ta(
     n: usize,
     mask: [u8; 16],
     xi: [u8; 16],
-) -> [u8; 16]
+    runs: usize,
+) -> Ran
     requires { ⌜ now table ≡ joined ⌝ }
     requires { ⌜ (10 ≤ nr) × (nr ≤ 14) ⌝ }
-    requires { ⌜ n ≡ (length (now a) - 1) / 16 ⌝ }
-    ensures { λ r. ⌜ ((d : DataPass) → mask ≡ d .mask n (ltb (length (now (a .entry)) - 16 * n) 16) → xi ≡ d .xi n (now (a .entry)) → r ≡ taOf (cipher nr (now (w .entry))) d (now (a .entry))) ⌝ }
+    requires { ⌜ (n ≡ (length (now a) - 1) / 16) × (runs ≤ n) ⌝ }
+    ensures { λ r. ⌜ ((d : DataPass) → mask ≡ d .mask n (ltb (length (now (a .entry)) - 16 * n) 16) → xi ≡ d .xi n (now (a .entry)) → r .block ≡ taOf (cipher nr (now (w .entry))) d (now (a .entry))) ⌝ }
+    ensures { λ r. ⌜ ((d : DataPass) → runs ≡ length (d .inputs n (now (a .entry))) → r .runs ≡ length (taInputs (cipher nr (now (w .entry))) d (now (a .entry)))) ⌝ }
 {
     if a.len() == 0 {
-        return block::zeros();
+        return Ran {
+            block: block::zeros(),
+            runs: 0,
+        };
     }
     let left = a.len() - 16 * n;
     let last = block::read(a, 16 * n, left);
     let sum = block::xor(xi, block::pad(last, left));
-    joined::encrypt(table, w, nr, block::xor(mask, sum))
+    Ran {
+        block: joined::encrypt(table, w, nr, block::xor(mask, sum)),
+        runs: runs + 1,
+    }
 }

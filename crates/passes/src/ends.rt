@@ -1,7 +1,8 @@
 // The last one or two blocks of the message pass, and TE. Each function writes its blocks and gives back what they put into the
-// checksum.
+// checksum, and how many times the cipher ran.
 ghost use mathlib.Core.Path.{_≡_};
 ghost use mathlib.Core.Bool.{true, false};
+ghost use mathlib.Core.List.{[], _∷_};
 ghost use Prim.Native.Nat.{_+_, _-_, _≤_, _<_};
 ghost use lib.Dec.{ltb};
 ghost use lib.ListN.{length, take, drop};
@@ -10,8 +11,9 @@ ghost use Rattle.lists.specs.Xor.{xor};
 ghost use Rattle.tables.specs.Joined.{joined};
 ghost use Rattle.aes.specs.Cipher.{cipher};
 ghost use Rattle.mode.specs.Masks.{third};
-ghost use Rattle.mode.specs.Message.{ending, endSum, lastLength, base, final};
-ghost use Rattle.mode.specs.Undoing.{unending, undoneSum};
+ghost use Rattle.mode.specs.Message.{ending, endingInputs, endSum, oneInputs, lastLength, base, final};
+ghost use Rattle.mode.specs.Undoing.{unending, unendingInputs, undoneSum};
+use pairs::Ran;
 use pairs::half;
 use pairs::put_two;
 
@@ -25,12 +27,13 @@ fn seal_two(
     m: &[u8],
     at: usize,
     out: &mut [u8],
-) -> [u8; 16]
+) -> Ran
     requires { ⌜ now table ≡ joined ⌝ }
     requires { ⌜ (10 ≤ nr) × (nr ≤ 14) ⌝ }
     requires { ⌜ (at + 16 < length (now m)) × ((length (now m) ≤ at + 32) × (length (now m) ≤ length (now out))) ⌝ }
     ensures { λ _. ⌜ now (out .exit) ≡ lay at (ending (cipher nr (now (w .entry))) true l r (drop at (now (m .entry)))) (now (out .entry)) ⌝ }
-    ensures { λ a. ⌜ a ≡ endSum (cipher nr (now (w .entry))) true l (drop at (now (m .entry))) ⌝ }
+    ensures { λ a. ⌜ a .block ≡ endSum (cipher nr (now (w .entry))) true l (drop at (now (m .entry))) ⌝ }
+    ensures { λ a. ⌜ a .runs ≡ length (endingInputs (cipher nr (now (w .entry))) true l r (drop at (now (m .entry)))) ⌝ }
 {
     let n = m.len() - (at + 16);
     let p = block::read_block(m, at);
@@ -38,8 +41,12 @@ fn seal_two(
     let last = block::xor(block::read(m, at + 16, n), z);
     let padded = block::pad(last, n);
     let before = half(table, w, nr, r, padded, p);
-    put_two(out, at, before, last, n);
-    block::xor(z, padded)
+    let first = before.block;
+    put_two(out, at, first, last, n);
+    Ran {
+        block: block::xor(z, padded),
+        runs: 1 + before.runs,
+    }
 }
 
 // Two cipher blocks of c from place at on, undone.
@@ -52,23 +59,29 @@ fn open_two(
     c: &[u8],
     at: usize,
     out: &mut [u8],
-) -> [u8; 16]
+) -> Ran
     requires { ⌜ now table ≡ joined ⌝ }
     requires { ⌜ (10 ≤ nr) × (nr ≤ 14) ⌝ }
     requires { ⌜ (at + 16 < length (now c)) × ((length (now c) ≤ at + 32) × (length (now c) ≤ length (now out))) ⌝ }
     ensures { λ _. ⌜ now (out .exit) ≡ lay at (unending (cipher nr (now (w .entry))) true l r (drop at (now (c .entry)))) (now (out .entry)) ⌝ }
-    ensures { λ a. ⌜ a ≡ undoneSum (cipher nr (now (w .entry))) true l r (drop at (now (c .entry))) ⌝ }
+    ensures { λ a. ⌜ a .block ≡ undoneSum (cipher nr (now (w .entry))) true l r (drop at (now (c .entry))) ⌝ }
+    ensures { λ a. ⌜ a .runs ≡ length (unendingInputs (cipher nr (now (w .entry))) true l r (drop at (now (c .entry)))) ⌝ }
 {
     let n = c.len() - (at + 16);
     let last = block::read(c, at + 16, n);
     let padded = block::pad(last, n);
-    let first = half(table, w, nr, r, padded, block::read_block(c, at));
+    let before = half(table, w, nr, r, padded, block::read_block(c, at));
+    let first = before.block;
     let e = joined::encrypt(table, w, nr, block::xor(l, first));
     put_two(out, at, first, block::xor(last, e), n);
-    block::xor(e, padded)
+    Ran {
+        block: block::xor(e, padded),
+        runs: before.runs + 1,
+    }
 }
 
-// One block from place at on, sealed or undone: what was written comes back, with no meaning behind its end.
+// One block from place at on, sealed or undone: what was written comes back, with no meaning behind its end. Where no byte is left
+// there is nothing to mask, and the cipher does not run.
 fn one(
     table: &[u32; 1024],
     w: &[u8; 240],
@@ -77,18 +90,25 @@ fn one(
     src: &[u8],
     at: usize,
     out: &mut [u8],
-) -> [u8; 16]
+) -> Ran
     requires { ⌜ now table ≡ joined ⌝ }
     requires { ⌜ (10 ≤ nr) × (nr ≤ 14) ⌝ }
     requires { ⌜ (at ≤ length (now src)) × ((length (now src) ≤ at + 16) × (length (now src) ≤ length (now out))) ⌝ }
     ensures { λ _. ⌜ now (out .exit) ≡ lay at (xor (drop at (now (src .entry))) (cipher nr (now (w .entry)) l)) (now (out .entry)) ⌝ }
-    ensures { λ a. ⌜ take (length (now (src .entry)) - at) a ≡ xor (drop at (now (src .entry))) (cipher nr (now (w .entry)) l) ⌝ }
+    ensures { λ a. ⌜ take (length (now (src .entry)) - at) (a .block) ≡ xor (drop at (now (src .entry))) (cipher nr (now (w .entry)) l) ⌝ }
+    ensures { λ a. ⌜ a .runs ≡ length (oneInputs l (drop at (now (src .entry)))) ⌝ }
 {
     let n = src.len() - at;
+    if n == 0 {
+        return Ran {
+            block: block::zeros(),
+            runs: 0,
+        };
+    }
     let e = joined::encrypt(table, w, nr, l);
     let x = block::xor(block::read(src, at, n), e);
     lists::lay(out, at, &x[..n]);
-    x
+    Ran { block: x, runs: 1 }
 }
 
 // One block of the message m from place at on.
@@ -100,16 +120,20 @@ fn seal_one(
     m: &[u8],
     at: usize,
     out: &mut [u8],
-) -> [u8; 16]
+) -> Ran
     requires { ⌜ now table ≡ joined ⌝ }
     requires { ⌜ (10 ≤ nr) × (nr ≤ 14) ⌝ }
     requires { ⌜ (at ≤ length (now m)) × ((length (now m) ≤ at + 16) × (length (now m) ≤ length (now out))) ⌝ }
     ensures { λ _. ⌜ now (out .exit) ≡ lay at (ending (cipher nr (now (w .entry))) false l l (drop at (now (m .entry)))) (now (out .entry)) ⌝ }
-    ensures { λ a. ⌜ a ≡ endSum (cipher nr (now (w .entry))) false l (drop at (now (m .entry))) ⌝ }
+    ensures { λ a. ⌜ a .block ≡ endSum (cipher nr (now (w .entry))) false l (drop at (now (m .entry))) ⌝ }
+    ensures { λ a. ⌜ a .runs ≡ length (endingInputs (cipher nr (now (w .entry))) false l l (drop at (now (m .entry)))) ⌝ }
 {
     let n = m.len() - at;
-    one(table, w, nr, l, m, at, out);
-    block::pad(block::read(m, at, n), n)
+    let ran = one(table, w, nr, l, m, at, out);
+    Ran {
+        block: block::pad(block::read(m, at, n), n),
+        runs: ran.runs,
+    }
 }
 
 // One cipher block of c from place at on, undone.
@@ -121,16 +145,21 @@ fn open_one(
     c: &[u8],
     at: usize,
     out: &mut [u8],
-) -> [u8; 16]
+) -> Ran
     requires { ⌜ now table ≡ joined ⌝ }
     requires { ⌜ (10 ≤ nr) × (nr ≤ 14) ⌝ }
     requires { ⌜ (at ≤ length (now c)) × ((length (now c) ≤ at + 16) × (length (now c) ≤ length (now out))) ⌝ }
     ensures { λ _. ⌜ now (out .exit) ≡ lay at (unending (cipher nr (now (w .entry))) false l l (drop at (now (c .entry)))) (now (out .entry)) ⌝ }
-    ensures { λ a. ⌜ a ≡ undoneSum (cipher nr (now (w .entry))) false l l (drop at (now (c .entry))) ⌝ }
+    ensures { λ a. ⌜ a .block ≡ undoneSum (cipher nr (now (w .entry))) false l l (drop at (now (c .entry))) ⌝ }
+    ensures { λ a. ⌜ a .runs ≡ length (unendingInputs (cipher nr (now (w .entry))) false l l (drop at (now (c .entry)))) ⌝ }
 {
     let n = c.len() - at;
-    let x = one(table, w, nr, l, c, at, out);
-    block::pad(x, n)
+    let ran = one(table, w, nr, l, c, at, out);
+    let x = ran.block;
+    Ran {
+        block: block::pad(x, n),
+        runs: ran.runs,
+    }
 }
 
 // What remains of the message m from place at on: two blocks, or one.
@@ -143,12 +172,13 @@ pub fn seal_rest(
     m: &[u8],
     at: usize,
     out: &mut [u8],
-) -> [u8; 16]
+) -> Ran
     requires { ⌜ now table ≡ joined ⌝ }
     requires { ⌜ (10 ≤ nr) × (nr ≤ 14) ⌝ }
     requires { ⌜ (at ≤ length (now m)) × ((length (now m) ≤ at + 32) × (length (now m) ≤ length (now out))) ⌝ }
     ensures { λ _. ⌜ now (out .exit) ≡ lay at (ending (cipher nr (now (w .entry))) (ltb (at + 16) (length (now (m .entry)))) l r (drop at (now (m .entry)))) (now (out .entry)) ⌝ }
-    ensures { λ a. ⌜ a ≡ endSum (cipher nr (now (w .entry))) (ltb (at + 16) (length (now (m .entry)))) l (drop at (now (m .entry))) ⌝ }
+    ensures { λ a. ⌜ a .block ≡ endSum (cipher nr (now (w .entry))) (ltb (at + 16) (length (now (m .entry)))) l (drop at (now (m .entry))) ⌝ }
+    ensures { λ a. ⌜ a .runs ≡ length (endingInputs (cipher nr (now (w .entry))) (ltb (at + 16) (length (now (m .entry)))) l r (drop at (now (m .entry)))) ⌝ }
 {
     if at + 16 < m.len() {
         return seal_two(table, w, nr, l, r, m, at, out);
@@ -166,12 +196,13 @@ pub fn open_rest(
     c: &[u8],
     at: usize,
     out: &mut [u8],
-) -> [u8; 16]
+) -> Ran
     requires { ⌜ now table ≡ joined ⌝ }
     requires { ⌜ (10 ≤ nr) × (nr ≤ 14) ⌝ }
     requires { ⌜ (at ≤ length (now c)) × ((length (now c) ≤ at + 32) × (length (now c) ≤ length (now out))) ⌝ }
     ensures { λ _. ⌜ now (out .exit) ≡ lay at (unending (cipher nr (now (w .entry))) (ltb (at + 16) (length (now (c .entry)))) l r (drop at (now (c .entry)))) (now (out .entry)) ⌝ }
-    ensures { λ a. ⌜ a ≡ undoneSum (cipher nr (now (w .entry))) (ltb (at + 16) (length (now (c .entry)))) l r (drop at (now (c .entry))) ⌝ }
+    ensures { λ a. ⌜ a .block ≡ undoneSum (cipher nr (now (w .entry))) (ltb (at + 16) (length (now (c .entry)))) l r (drop at (now (c .entry))) ⌝ }
+    ensures { λ a. ⌜ a .runs ≡ length (unendingInputs (cipher nr (now (w .entry))) (ltb (at + 16) (length (now (c .entry)))) l r (drop at (now (c .entry)))) ⌝ }
 {
     if at + 16 < c.len() {
         return open_two(table, w, nr, l, r, c, at, out);
@@ -208,10 +239,14 @@ pub fn te(
     r: [u8; 16],
     n: usize,
     s: [u8; 16],
-) -> [u8; 16]
+) -> Ran
     requires { ⌜ now table ≡ joined ⌝ }
     requires { ⌜ (10 ≤ nr) × (nr ≤ 14) ⌝ }
-    ensures { λ a. ⌜ a ≡ cipher nr (now (w .entry)) (xor (final (third l) (ltb (lastLength (ltb 16 n) n) 16) (base (ltb 16 n) l r)) s) ⌝ }
+    ensures { λ a. ⌜ a .block ≡ cipher nr (now (w .entry)) (xor (final (third l) (ltb (lastLength (ltb 16 n) n) 16) (base (ltb 16 n) l r)) s) ⌝ }
+    ensures { λ a. ⌜ a .runs ≡ length (xor (final (third l) (ltb (lastLength (ltb 16 n) n) 16) (base (ltb 16 n) l r)) s ∷ []) ⌝ }
 {
-    joined::encrypt(table, w, nr, block::xor(end_mask(l, r, n), s))
+    Ran {
+        block: joined::encrypt(table, w, nr, block::xor(end_mask(l, r, n), s)),
+        runs: 1,
+    }
 }

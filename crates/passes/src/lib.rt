@@ -1,5 +1,6 @@
 // The passes of AES-OTR v3.1 over an expanded key: w is the flat array of its words, nr its round count, and table the four joined
-// tables, which every function is lent. In the contracts the cipher E is `cipher nr (now w)`.
+// tables, which every function is lent. In the contracts the cipher E is `cipher nr (now w)`. What runs the cipher says how many times
+// it did (document 02, wish 6): each of its calls is counted where it stands, and the sum is formed where passes meet.
 ghost use mathlib.Core.Path.{_≡_};
 ghost use Prim.Native.Nat.{_+_, _-_, _≤_};
 ghost use lib.ListN.{length};
@@ -7,9 +8,11 @@ ghost use Rattle.lists.specs.Lay.{lay};
 ghost use Rattle.tables.specs.Joined.{joined};
 ghost use Rattle.aes.specs.Cipher.{cipher};
 ghost use Rattle.mode.specs.Form.{formOf};
-ghost use Rattle.mode.specs.Sealing.{u as uOf, added as addedOf, otr};
-ghost use Rattle.mode.specs.Undoing.{found};
+ghost use Rattle.mode.specs.Data.{dataPass, ta as taOf, taInputs};
+ghost use Rattle.mode.specs.Sealing.{dataTag, dataInputs, u as uOf, added as addedOf, otr, callInputs, otrInputs};
+ghost use Rattle.mode.specs.Undoing.{found, foundInputs};
 ghost use Rattle.passes.specs.Shown.{shown, flag};
+use pairs::Ran;
 
 mod data;
 mod ends;
@@ -19,10 +22,47 @@ mod parallel;
 mod serial;
 mod tag;
 
-// The first mask U, and what is XORed into the tag.
+// The first mask U, what is XORed into the tag, and how many times the cipher ran for them.
 struct SealsWith {
     u: [u8; 16],
     added: [u8; 16],
+    runs: usize,
+}
+
+// Whether the tag matches, and how many times the cipher ran.
+pub struct Opening {
+    pub matches: bool,
+    pub runs: usize,
+}
+
+// TA of the associated data a from the first Q, in the form with this number.
+fn ta(form: usize, table: &[u32; 1024], w: &[u8; 240], nr: usize, q: [u8; 16], a: &[u8]) -> Ran
+    requires { ⌜ now table ≡ joined ⌝ }
+    requires { ⌜ (10 ≤ nr) × (nr ≤ 14) ⌝ }
+    ensures { λ r. ⌜ r .block ≡ taOf (cipher nr (now (w .entry))) (dataPass (cipher nr (now (w .entry))) q (formOf form)) (now (a .entry)) ⌝ }
+    ensures { λ r. ⌜ r .runs ≡ length (taInputs (cipher nr (now (w .entry))) (dataPass (cipher nr (now (w .entry))) q (formOf form)) (now (a .entry))) ⌝ }
+{
+    if form == 0 {
+        return parallel::ta(table, w, nr, q, a);
+    }
+    serial::ta(table, w, nr, q, a)
+}
+
+// The same with its first Q.
+fn data_tag(form: usize, table: &[u32; 1024], w: &[u8; 240], nr: usize, a: &[u8]) -> Ran
+    requires { ⌜ now table ≡ joined ⌝ }
+    requires { ⌜ (10 ≤ nr) × (nr ≤ 14) ⌝ }
+    ensures { λ r. ⌜ r .block ≡ dataTag (cipher nr (now (w .entry))) (formOf form) (now (a .entry)) ⌝ }
+    ensures { λ r. ⌜ r .runs ≡ length (dataInputs (cipher nr (now (w .entry))) (formOf form) (now (a .entry))) ⌝ }
+{
+    let first = data::first_q(table, w, nr, a);
+    let q = first.block;
+    let pass = ta(form, table, w, nr, q, a);
+    let b = pass.block;
+    Ran {
+        block: b,
+        runs: first.runs + pass.runs,
+    }
 }
 
 // What the form with this number seals with, for the nonce n and the associated data a.
@@ -40,22 +80,29 @@ fn seals_with(
     requires { ⌜ (1 ≤ length (now n)) × ((length (now n) ≤ 15) × (t ≤ 16)) ⌝ }
     ensures { λ r. ⌜ r .u ≡ uOf (cipher nr (now (w .entry))) (formOf form) (now (n .entry)) (now (a .entry)) t ⌝ }
     ensures { λ r. ⌜ r .added ≡ addedOf (cipher nr (now (w .entry))) (formOf form) (now (n .entry)) (now (a .entry)) t ⌝ }
+    ensures { λ r. ⌜ r .runs ≡ length (callInputs (cipher nr (now (w .entry))) (formOf form) (now (n .entry)) (now (a .entry)) t) ⌝ }
 {
-    let q = data::first_q(table, w, nr, a);
     let v = joined::encrypt(table, w, nr, nonce::format(t, n));
+    let data = data_tag(form, table, w, nr, a);
+    let ta = data.block;
+    // one for the nonce block
+    let runs = 1 + data.runs;
     if form == 0 {
-        let ta = parallel::ta(table, w, nr, q, a);
-        return SealsWith { u: v, added: ta };
+        return SealsWith {
+            u: v,
+            added: ta,
+            runs: runs,
+        };
     }
-    let ta = serial::ta(table, w, nr, q, a);
-    let u = block::double(block::xor(v, ta));
     SealsWith {
-        u: u,
+        u: block::double(block::xor(v, ta)),
         added: block::zeros(),
+        runs: runs,
     }
 }
 
-// Seals the message m with nonce n and associated data a into out: the ciphertext, and t bytes of tag behind it.
+// Seals the message m with nonce n and associated data a into out: the ciphertext, and t bytes of tag behind it. Says how many times
+// the cipher ran.
 pub fn seal(
     form: usize,
     table: &[u32; 1024],
@@ -66,19 +113,22 @@ pub fn seal(
     m: &[u8],
     t: usize,
     out: &mut [u8],
-)
+) -> usize
     requires { ⌜ now table ≡ joined ⌝ }
     requires { ⌜ (10 ≤ nr) × (nr ≤ 14) ⌝ }
     requires { ⌜ (1 ≤ length (now n)) × ((length (now n) ≤ 15) × (t ≤ 16)) ⌝ }
     requires { ⌜ length (now m) + t ≤ length (now out) ⌝ }
     ensures { λ _. ⌜ now (out .exit) ≡ lay 0 (otr (cipher nr (now (w .entry))) (formOf form) (now (n .entry)) (now (a .entry)) t (now (m .entry))) (now (out .entry)) ⌝ }
+    ensures { λ r. ⌜ r ≡ length (otrInputs (cipher nr (now (w .entry))) (formOf form) (now (n .entry)) (now (a .entry)) t (now (m .entry))) ⌝ }
 {
     let with = seals_with(form, table, w, nr, n, a, t);
     let u = with.u;
     let added = with.added;
-    let te = message::seal(table, w, nr, u, m, out);
+    let pass = message::seal(table, w, nr, u, m, out);
+    let te = pass.block;
     let x = block::xor(te, added);
     lists::lay(out, m.len(), &x[..t]);
+    with.runs + pass.runs
 }
 
 // Opens s, whose last t bytes are the tag, into out, and says whether the tag matches. Where it does not, the message is cleared.
@@ -92,23 +142,32 @@ pub fn open(
     s: &[u8],
     t: usize,
     out: &mut [u8],
-) -> bool
+) -> Opening
     requires { ⌜ now table ≡ joined ⌝ }
     requires { ⌜ (10 ≤ nr) × (nr ≤ 14) ⌝ }
     requires { ⌜ (1 ≤ length (now n)) × ((length (now n) ≤ 15) × (t ≤ 16)) ⌝ }
     requires { ⌜ (t ≤ length (now s)) × (length (now s) - t ≤ length (now out)) ⌝ }
-    ensures { λ r. ⌜ r ≡ flag (found (cipher nr (now (w .entry))) (formOf form) (now (n .entry)) (now (a .entry)) t (now (s .entry))) ⌝ }
+    ensures { λ r. ⌜ r .matches ≡ flag (found (cipher nr (now (w .entry))) (formOf form) (now (n .entry)) (now (a .entry)) t (now (s .entry))) ⌝ }
     ensures { λ _. ⌜ now (out .exit) ≡ shown (found (cipher nr (now (w .entry))) (formOf form) (now (n .entry)) (now (a .entry)) t (now (s .entry))) (length (now (s .entry)) - t) (now (out .entry)) ⌝ }
+    ensures { λ r. ⌜ r .runs ≡ length (foundInputs (cipher nr (now (w .entry))) (formOf form) (now (n .entry)) (now (a .entry)) t (now (s .entry))) ⌝ }
 {
     let b = s.len() - t;
     let with = seals_with(form, table, w, nr, n, a, t);
     let u = with.u;
     let added = with.added;
-    let te = message::open(table, w, nr, u, &s[..b], out);
+    let pass = message::open(table, w, nr, u, &s[..b], out);
+    let te = pass.block;
     let x = block::xor(te, added);
+    let runs = with.runs + pass.runs;
     if tag::same_tag(x, s, b, t) {
-        return true;
+        return Opening {
+            matches: true,
+            runs: runs,
+        };
     }
     tag::clear(out, b);
-    false
+    Opening {
+        matches: false,
+        runs: runs,
+    }
 }

@@ -1,4 +1,4 @@
-// The message pass: the pairs, the last one or two blocks, and TE.
+// The message pass: the pairs, the last one or two blocks, and TE; and how many times the cipher ran for them.
 ghost use mathlib.Core.Path.{_≡_};
 ghost use Prim.Native.Nat.{_≤_};
 ghost use lib.ListN.{length};
@@ -7,8 +7,10 @@ ghost use Rattle.tables.specs.Joined.{joined};
 ghost use Rattle.aes.specs.Cipher.{cipher};
 ghost use Rattle.mode.specs.Masks.{third};
 ghost use Rattle.mode.specs.Message.{pairsOf, body, te as teOf};
-ghost use Rattle.mode.specs.Undoing.{unbody};
+ghost use Rattle.mode.specs.Sealing.{sealedInputs};
+ghost use Rattle.mode.specs.Undoing.{unbody, undoneInputs};
 use crate::ends;
+use pairs::Ran;
 
 // The number of pairs before the last one or two blocks of b bytes.
 fn pairs_of(b: usize) -> usize
@@ -28,21 +30,28 @@ pub fn seal(
     u: [u8; 16],
     m: &[u8],
     out: &mut [u8],
-) -> [u8; 16]
+) -> Ran
     requires { ⌜ now table ≡ joined ⌝ }
     requires { ⌜ (10 ≤ nr) × (nr ≤ 14) ⌝ }
     requires { ⌜ length (now m) ≤ length (now out) ⌝ }
     ensures { λ _. ⌜ now (out .exit) ≡ lay 0 (body (cipher nr (now (w .entry))) (third u) (now (m .entry))) (now (out .entry)) ⌝ }
-    ensures { λ a. ⌜ a ≡ teOf (cipher nr (now (w .entry))) (third u) (now (m .entry)) ⌝ }
+    ensures { λ a. ⌜ a .block ≡ teOf (cipher nr (now (w .entry))) (third u) (now (m .entry)) ⌝ }
+    ensures { λ a. ⌜ a .runs ≡ length (sealedInputs (cipher nr (now (w .entry))) (third u) (now (m .entry))) ⌝ }
 {
     let n = pairs_of(m.len());
     let at = 32 * n;
-    let masks = pairs::pairs(table, w, nr, u, block::triple(u), m, n, out);
-    let l = masks.left;
-    let r = masks.right;
+    let front = pairs::pairs(table, w, nr, u, block::triple(u), m, n, out);
+    let l = front.left;
+    let r = front.right;
     let s = pairs::sum(m, n);
-    let e = ends::seal_rest(table, w, nr, l, r, m, at, out);
-    ends::te(table, w, nr, l, r, m.len() - at, block::xor(s, e))
+    let rest = ends::seal_rest(table, w, nr, l, r, m, at, out);
+    let e = rest.block;
+    let te = ends::te(table, w, nr, l, r, m.len() - at, block::xor(s, e));
+    let b = te.block;
+    Ran {
+        block: b,
+        runs: front.runs + rest.runs + te.runs,
+    }
 }
 
 // Undoes the ciphertext c into out, and gives TE of the message that was recovered.
@@ -53,19 +62,26 @@ pub fn open(
     u: [u8; 16],
     c: &[u8],
     out: &mut [u8],
-) -> [u8; 16]
+) -> Ran
     requires { ⌜ now table ≡ joined ⌝ }
     requires { ⌜ (10 ≤ nr) × (nr ≤ 14) ⌝ }
     requires { ⌜ length (now c) ≤ length (now out) ⌝ }
     ensures { λ _. ⌜ now (out .exit) ≡ lay 0 (unbody (cipher nr (now (w .entry))) (third u) (now (c .entry))) (now (out .entry)) ⌝ }
-    ensures { λ a. ⌜ a ≡ teOf (cipher nr (now (w .entry))) (third u) (unbody (cipher nr (now (w .entry))) (third u) (now (c .entry))) ⌝ }
+    ensures { λ a. ⌜ a .block ≡ teOf (cipher nr (now (w .entry))) (third u) (unbody (cipher nr (now (w .entry))) (third u) (now (c .entry))) ⌝ }
+    ensures { λ a. ⌜ a .runs ≡ length (undoneInputs (cipher nr (now (w .entry))) (third u) (now (c .entry))) ⌝ }
 {
     let n = pairs_of(c.len());
     let at = 32 * n;
-    let masks = pairs::pairs(table, w, nr, block::triple(u), u, c, n, out);
-    let l = masks.right;
-    let r = masks.left;
+    let front = pairs::pairs(table, w, nr, block::triple(u), u, c, n, out);
+    let l = front.right;
+    let r = front.left;
     let s = pairs::sum(out, n);
-    let e = ends::open_rest(table, w, nr, l, r, c, at, out);
-    ends::te(table, w, nr, l, r, c.len() - at, block::xor(s, e))
+    let rest = ends::open_rest(table, w, nr, l, r, c, at, out);
+    let e = rest.block;
+    let te = ends::te(table, w, nr, l, r, c.len() - at, block::xor(s, e));
+    let b = te.block;
+    Ran {
+        block: b,
+        runs: front.runs + rest.runs + te.runs,
+    }
 }

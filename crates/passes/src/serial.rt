@@ -6,25 +6,32 @@ ghost use lib.ListN.{length};
 ghost use Rattle.tables.specs.Joined.{joined};
 ghost use Rattle.aes.specs.Cipher.{cipher};
 ghost use Rattle.mode.specs.Form.{serial};
-ghost use Rattle.mode.specs.Data.{chain as chainOf, chainFinal, dataPass, ta as taOf};
+ghost use Rattle.mode.specs.Data.{chain as chainOf, chainInputs, chainFinal, dataPass, ta as taOf, taInputs};
 use crate::data;
+use pairs::Ran;
 
 // The first n blocks of a, each ciphered with what came out before it.
-fn chain(table: &[u32; 1024], w: &[u8; 240], nr: usize, a: &[u8], n: usize) -> [u8; 16]
+fn chain(table: &[u32; 1024], w: &[u8; 240], nr: usize, a: &[u8], n: usize) -> Ran
     requires { ⌜ now table ≡ joined ⌝ }
     requires { ⌜ (10 ≤ nr) × (nr ≤ 14) ⌝ }
     requires { ⌜ 16 * n ≤ length (now a) ⌝ }
-    ensures { λ r. ⌜ r ≡ chainOf (cipher nr (now (w .entry))) n (now (a .entry)) ⌝ }
+    ensures { λ r. ⌜ r .block ≡ chainOf (cipher nr (now (w .entry))) n (now (a .entry)) ⌝ }
+    ensures { λ r. ⌜ r .runs ≡ length (chainInputs (cipher nr (now (w .entry))) n (now (a .entry))) ⌝ }
 {
     let mut xi = block::zeros();
+    let mut runs: usize = 0;
     let mut i = 0;
     while i < n {
         let b = block::read_block(a, 16 * i);
         let e = joined::encrypt(table, w, nr, block::xor(b, xi));
         xi = e;
+        runs += 1;
         i += 1;
     }
-    xi
+    Ran {
+        block: xi,
+        runs: runs,
+    }
 }
 
 // The final mask for a last block of n bytes.
@@ -37,13 +44,15 @@ fn chain_mask(q: [u8; 16], n: usize) -> [u8; 16]
     block::double(block::double(q))
 }
 
-pub fn ta(table: &[u32; 1024], w: &[u8; 240], nr: usize, q: [u8; 16], a: &[u8]) -> [u8; 16]
+pub fn ta(table: &[u32; 1024], w: &[u8; 240], nr: usize, q: [u8; 16], a: &[u8]) -> Ran
     requires { ⌜ now table ≡ joined ⌝ }
     requires { ⌜ (10 ≤ nr) × (nr ≤ 14) ⌝ }
-    ensures { λ r. ⌜ r ≡ taOf (cipher nr (now (w .entry))) (dataPass (cipher nr (now (w .entry))) q serial) (now (a .entry)) ⌝ }
+    ensures { λ r. ⌜ r .block ≡ taOf (cipher nr (now (w .entry))) (dataPass (cipher nr (now (w .entry))) q serial) (now (a .entry)) ⌝ }
+    ensures { λ r. ⌜ r .runs ≡ length (taInputs (cipher nr (now (w .entry))) (dataPass (cipher nr (now (w .entry))) q serial) (now (a .entry))) ⌝ }
 {
     let n = data::before_last(a.len());
-    let xi = chain(table, w, nr, a, n);
+    let front = chain(table, w, nr, a, n);
+    let xi = front.block;
     let mask = chain_mask(q, a.len() - 16 * n);
-    data::ta(table, w, nr, a, n, mask, xi)
+    data::ta(table, w, nr, a, n, mask, xi, front.runs)
 }

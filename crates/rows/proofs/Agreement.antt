@@ -1,9 +1,9 @@
--- AES-OTR v3.1 with AES in the cipher's place, in both forms, computed and held to what the second program gives. Each row is computed
+-- AES-OTR v3.1 with AES in the cipher's place, in both forms, computed and held to what the second program gives, its runs of the cipher too. Each row is computed
 -- by itself, since together they pass what antt computes in one declaration; `rows` is the one claim. Assumes nothing.
 use mathlib.Core.Path.{_≡_, refl, ap₂}
 use mathlib.Core.List.{List, _∷_, map, zipWith}
 use Prim.Native.Nat.{ℕ, _+_, _*_, _%_}
-use lib.ListN.{getD}
+use lib.ListN.{length, getD}
 use Rattle.lists.specs.Hex.{bytes}
 use Rattle.lists.specs.Table.{table, tableFrom}
 use Rattle.lists.specs.Xor.{xor}
@@ -15,38 +15,41 @@ use Rattle.aes.specs.Expansion.{power, temp, next, words, keyExpansion, aes}
 use Rattle.block.specs.Block.{pad, shift, double}
 use Rattle.mode.specs.Form.{formOf}
 use Rattle.mode.specs.Masks.{doubles}
-use Rattle.mode.specs.Message.{blocks, pairsOf, even, short, sum, pairs, body, checksum, te}
-use Rattle.mode.specs.Data.{dataSum, chain, ta}
+use Rattle.mode.specs.Message.{blocks, pairsOf, even, short, sum, pairs, pairsInputs, body, bodyInputs, checksum, te}
+use Rattle.mode.specs.Data.{dataSum, sumInputs, chain, chainInputs, ta, taInputs}
 use Rattle.mode.specs.Nonce.{format}
-use Rattle.mode.specs.Sealing.{tag, sealed, otr}
+use Rattle.mode.specs.Sealing.{tag, sealed, sealedInputs, otr, otrInputs}
 use Rattle.rows.proofs.Expected.{Row, expected}
 
 -- byte i of the key is 17i + 2, of the message 7i + 3, of the data 11i + 5, of the nonce 13i + 1
-pub computed : Row → List ℕ
-computed (f, key, m, a, k, t, x) =
-    otr (aes (table (λ i. (17 * i + 2) % 256) key)) (formOf f) (table (λ i. (13 * i + 1) % 256) k) (table (λ i. (11 * i + 5) % 256) a) t
-    (table (λ i. (7 * i + 3) % 256) m)
+pub computed : Row → ℕ × List ℕ
+computed (f, key, m, a, k, t, n, x) =
+    let E = aes (table (λ i. (17 * i + 2) % 256) key) in
+    let nonce = table (λ i. (13 * i + 1) % 256) k in
+    let ad = table (λ i. (11 * i + 5) % 256) a in
+    let message = table (λ i. (7 * i + 3) % 256) m in
+    (length (otrInputs E (formOf f) nonce ad t message), otr E (formOf f) nonce ad t message)
 
-pub given : Row → List ℕ
-given (f, key, m, a, k, t, x) = bytes (m + t) x
+pub given : Row → ℕ × List ℕ
+given (f, key, m, a, k, t, n, x) = (n, bytes (m + t) x)
 
 row-at : ℕ → Row
-row-at i = getD expected i (0, 0, 0, 0, 0, 0, 0)
+row-at i = getD expected i (0, 0, 0, 0, 0, 0, 0, 0)
 
 row-0 : computed (row-at 0) ≡ given (row-at 0)
-unfolding row-at computed given tableFrom xor zeros product inverse affine substitute addRoundKey round lastRound rounds cipher power temp next words keyExpansion aes pad shift double doubles blocks pairsOf even short sum pairs body checksum te dataSum chain ta zipWith format tag sealed
+unfolding row-at computed given tableFrom xor zeros product inverse affine substitute addRoundKey round lastRound rounds cipher power temp next words keyExpansion aes pad shift double doubles blocks pairsOf even short sum pairs pairsInputs body bodyInputs checksum te dataSum sumInputs chain chainInputs ta taInputs zipWith format tag sealed sealedInputs
 row-0 = refl
 
 row-1 : computed (row-at 1) ≡ given (row-at 1)
-unfolding row-at computed given tableFrom xor zeros product inverse affine substitute addRoundKey round lastRound rounds cipher power temp next words keyExpansion aes pad shift double doubles blocks pairsOf even short sum pairs body checksum te dataSum chain ta zipWith format tag sealed
+unfolding row-at computed given tableFrom xor zeros product inverse affine substitute addRoundKey round lastRound rounds cipher power temp next words keyExpansion aes pad shift double doubles blocks pairsOf even short sum pairs pairsInputs body bodyInputs checksum te dataSum sumInputs chain chainInputs ta taInputs zipWith format tag sealed sealedInputs
 row-1 = refl
 
 row-2 : computed (row-at 2) ≡ given (row-at 2)
-unfolding row-at computed given tableFrom xor zeros product inverse affine substitute addRoundKey round lastRound rounds cipher power temp next words keyExpansion aes pad shift double doubles blocks pairsOf even short sum pairs body checksum te dataSum chain ta zipWith format tag sealed
+unfolding row-at computed given tableFrom xor zeros product inverse affine substitute addRoundKey round lastRound rounds cipher power temp next words keyExpansion aes pad shift double doubles blocks pairsOf even short sum pairs pairsInputs body bodyInputs checksum te dataSum sumInputs chain chainInputs ta taInputs zipWith format tag sealed sealedInputs
 row-2 = refl
 
 row-3 : computed (row-at 3) ≡ given (row-at 3)
-unfolding row-at computed given tableFrom xor zeros product inverse affine substitute addRoundKey round lastRound rounds cipher power temp next words keyExpansion aes pad shift double doubles blocks pairsOf even short sum pairs body checksum te dataSum chain ta zipWith format tag sealed
+unfolding row-at computed given tableFrom xor zeros product inverse affine substitute addRoundKey round lastRound rounds cipher power temp next words keyExpansion aes pad shift double doubles blocks pairsOf even short sum pairs pairsInputs body bodyInputs checksum te dataSum sumInputs chain chainInputs ta taInputs zipWith format tag sealed sealedInputs
 row-3 = refl
 
 pub rows : map computed expected ≡ map given expected

@@ -5,13 +5,14 @@ use native.Mathlib.Omega.{arith}
 use borrow.Author.Needs.{needs}
 use Rattle.link.specs.Answers.{numberOf}
 use Rattle.link.specs.declared.answer.Answer.{Answer}
-use Rattle.link.proofs.Answers.{Answered, done, refusal, answered}
+use Rattle.link.proofs.Answers.{Answered, done, forged, refusal, answered}
 use Rattle.firmware.proofs.number.Statement.{statement}
 use Rattle.firmware.proofs.number.Tie as tie
 
 at-most-8 : (r : Answer) → Answered r → numberOf r ≤ 8
-at-most-8 r (done n e) = let z : numberOf r ≡ 0 = ap numberOf e in omega arith
-at-most-8 r (refusal most none stands) = most
+at-most-8 r (done n k e) = let z : numberOf r ≡ 0 = ap numberOf e in omega arith
+at-most-8 r (forged k e) = let z : numberOf r ≡ 7 = ap numberOf e in omega arith
+at-most-8 r (refusal most none runs stands) = most
 
 number-is : (c : tie.After-number) → c .number .result ≡ numberOf (c .before .args .answer)
 number-is c = c .number .ensures

@@ -1,13 +1,15 @@
 -- `link::seal` meets its promise. Assumes nothing.
-use mathlib.Core.Path.{_≡_, sym, ap, subst, _∙_}
+use mathlib.Core.Path.{_≡_, sym, ap, ap₂, subst, _∙_}
 use mathlib.Core.List.{List}
 use Prim.Native.Nat.{ℕ, _+_, _≤_}
 use lib.ListN.{length}
 use Rattle.lists.specs.Lay.{lay}
 use Rattle.mode.specs.Form.{formOf}
-use Rattle.mode.specs.Sealing.{otr}
+use Rattle.mode.specs.Sealing.{otr, otrInputs}
+use Rattle.link.specs.Answers.{lengthOf}
 use Rattle.link.specs.Checks.{Check, pass, sealCheck, asAnswer}
-use Rattle.link.specs.Promises.{sealing, SealsBy, Seals}
+use Rattle.link.specs.Promises.{sealing, sealRuns, SealsBy, Seals}
+use Rattle.link.specs.declared.answer.Answer.the-variants.{Done}
 use Rattle.link.proofs.Verdicts.{Called, seal-verdict}
 use Rattle.link.proofs.Entries.{seal-stopped, went-on, keyed, rounds-in, cipher-is}
 use borrow.Author.Needs.{needs}
@@ -38,7 +40,7 @@ unfolding Seals
 returns c =
     let at-check = c .before .before in
     let v = start-of at-check .args in
-    seal-stopped (checks at-check) (sealing (v .form) (v .key .now) (v .nonce .now) (v .ad .now) (v .tag) (v .message .now)) (v .out .now) (at-check .seal-check .result)
+    seal-stopped (checks at-check) _ (sealing (v .form) (v .key .now) (v .nonce .now) (v .ad .now) (v .tag) (v .message .now)) (v .out .now) (at-check .seal-check .result)
     (at-check .seal-check .ensures) (λ z. c .if1 .taken (c .before .number .ensures ∙ z))
 
 seal-requires : tie.Need-seal-requires
@@ -59,7 +61,7 @@ seal-requires c κs =
 returns-2 : tie.Need-returns-2
 unfolding Seals
 returns-2 c =
-    let at-seal = c .before .before in
+    let at-seal = c .before .before .before in
     let at-expand = at-seal .before .before .before .before .before .before in
     let e = at-expand .before .before .before in
     let at-check = e .before .before in
@@ -67,13 +69,16 @@ returns-2 c =
     let key = v .key .now in
     let f = facts e in
     let E-is = cipher-is key (keyed key (f .0 .0 .known)) (at-expand .expand .result) (at-expand .expand .ensures) in
+    let long : c .length .result ≡ length (v .message .now) + v .tag = c .length .ensures ∙ ap lengthOf (at-check .seal-check .ensures ∙ ap asAnswer (f .1)) in
+    let runs : at-seal .seal .result ≡ sealRuns (v .form) key (v .nonce .now) (v .ad .now) (v .tag) (v .message .now) =
+    at-seal .seal .ensures .1 ∙ ap (λ (E : List ℕ → List ℕ). length (otrInputs E (formOf (v .form)) (v .nonce .now) (v .ad .now) (v .tag) (v .message .now))) E-is in
     subst
-    (λ (x : Check). SealsBy x (sealing (v .form) key (v .nonce .now) (v .ad .now) (v .tag) (v .message .now)) (v .out .now) (at-check .seal-check .result) (at-seal .seal .last .1 .1 .1 .1 .1 .1 .1 .1 .0))
+    (λ (x : Check). SealsBy x (sealRuns (v .form) key (v .nonce .now) (v .ad .now) (v .tag) (v .message .now)) (sealing (v .form) key (v .nonce .now) (v .ad .now) (v .tag) (v .message .now)) (v .out .now) (Done (c .length .result) (at-seal .seal .result)) (at-seal .seal .last .1 .1 .1 .1 .1 .1 .1 .1 .0))
     (sym (f .1)) (
-      at-check .seal-check .ensures ∙ ap asAnswer (f .1),
-      at-seal .seal .ensures ∙ ap (λ (E : List ℕ → List ℕ). lay 0 (otr E (formOf (v .form)) (v .nonce .now) (v .ad .now) (v .tag) (v .message .now)) (v .out .now)) E-is,
+      ap₂ Done long runs,
+      at-seal .seal .ensures .0 ∙ ap (λ (E : List ℕ → List ℕ). lay 0 (otr E (formOf (v .form)) (v .nonce .now) (v .ad .now) (v .tag) (v .message .now)) (v .out .now)) E-is,
     )
 
 pub seal-spec : {M : Type 1} → statement M
 seal-spec =
-    tie.close (tie.spec (λ c κs. search needs) (λ c κs. search needs) returns (λ c κs. search needs) (λ c κs. search needs) (λ c κs. search needs) seal-requires (λ c. search needs) returns-2)
+    tie.close (tie.spec (λ c κs. search needs) (λ c κs. search needs) returns (λ c κs. search needs) (λ c κs. search needs) (λ c κs. search needs) seal-requires (λ c κs. search needs) (λ c. search needs) returns-2)

@@ -1,5 +1,5 @@
 -- `pairs::pairs` meets its contract. The loop's invariant: i pairs are laid, and the masks are doubled i times. Assumes nothing.
-use mathlib.Core.Path.{_≡_, refl, ap, ap₂, _∙_}
+use mathlib.Core.Path.{_≡_, refl, sym, ap, ap₂, _∙_}
 use mathlib.Core.List.{List}
 use Prim.Native.Nat.{ℕ, _+_, _-_, _*_, _≤_}
 use native.Mathlib.Omega.{arith}
@@ -10,7 +10,8 @@ use Rattle.block.specs.Block.{double}
 use Rattle.block.specs.Wide.{bytesOf}
 use Rattle.block.proofs.Words.{length-bytes}
 use Rattle.mode.specs.Masks.{doubles, doubled}
-use Rattle.mode.specs.Message.{pairs}
+use Rattle.mode.specs.Message.{pairs, pairsInputs}
+use Rattle.mode.proofs.Runs.{length-pairsInputs}
 use borrow.Author.Needs.{needs}
 use Rattle.pairs.proofs.Cipher.{is-cipher}
 use Rattle.pairs.proofs.Steps.{doubles-step, laid-more}
@@ -18,18 +19,19 @@ use Rattle.pairs.proofs.pairs.Statement.{statement}
 use Rattle.pairs.proofs.pairs.Tie as tie
 
 abbrev Inv-loop : tie.InvT-loop
-Inv-loop table w nr src n out₀ left₀ right₀ i₀ out left right i =
+Inv-loop table w nr src n out₀ left₀ right₀ runs₀ i₀ out left right runs i =
     (i ≤ n)
     × (out ≡ lay 0 (pairs (cipher nr w) (doubled (bytesOf left₀) (bytesOf right₀)) i src) out₀)
     × ((bytesOf left ≡ doubles i (bytesOf left₀)) × (bytesOf right ≡ doubles i (bytesOf right₀)))
     × (length out ≡ length out₀)
+    × (runs ≡ length (pairsInputs (cipher nr w) (doubled (bytesOf left₀) (bytesOf right₀)) i src))
 
 abbrev μ-loop : tie.MeasureT-loop
-μ-loop table w nr src n out₀ left₀ right₀ i₀ out left right i = n - i
+μ-loop table w nr src n out₀ left₀ right₀ runs₀ i₀ out left right runs i = n - i
 
 loop-holds : tie.Need-loop-holds Inv-loop μ-loop
-unfolding pairs doubles
-loop-holds c = (search needs, refl, (refl, refl), refl)
+unfolding pairs pairsInputs doubles
+loop-holds c = (search needs, refl, (refl, refl), refl, refl)
 
 two-pairs-requires : tie.Need-two-pairs-requires Inv-loop μ-loop
 two-pairs-requires c κs =
@@ -37,6 +39,18 @@ two-pairs-requires c κs =
     let pre = at-loop .before .before .before .before .before .pre in
     let more = c .before .before .before in
     (pre .0, (pre .1 .0, (omega (arith, pre .1 .1, at-loop .loop .inv, more), omega (arith, pre .1 .1, at-loop .loop .inv, more))))
+
+-- a step of two pairs runs the cipher four times, and one of one pair twice
+add-runs : tie.Need-add-runs Inv-loop μ-loop
+add-runs c =
+    let at-two = c .before .before .before .before in
+    let at-loop = at-two .before .before .before .before .before in
+    let start = at-loop .before .before .before .before .before in
+    let v = start .args in
+    let h = at-loop .loop in
+    let k = doubled (bytesOf (at-loop .before .before .to-words .result)) (bytesOf (at-loop .before .to-words2 .result)) in
+    let four : at-two .two-pairs .result ≡ 4 = at-two .two-pairs .ensures .1 in
+    record { fits = omega (arith, start .good, start .pre .1 .1, h .inv .0, h .inv .4, length-pairsInputs (cipher (v .nr) (v .w .now)) k (h .i) (v .src .now), four) }
 
 loop-again : tie.Need-loop-again Inv-loop μ-loop
 loop-again c =
@@ -57,14 +71,17 @@ loop-again c =
     let two = more (i + 1) (32 * i + 32) (32 * i + 48) _ _ _ (omega arith) (omega arith) (omega arith) (omega arith) left-is right-is one in
     let left-twice : bytesOf (c .before .double-words3 .result) ≡ double (bytesOf (at-left .double-words .result)) = c .before .double-words3 .ensures in
     let right-twice : bytesOf (c .double-words4 .result) ≡ double (bytesOf (at-right .double-words2 .result)) = c .double-words4 .ensures in
-    let next : i + 1 + 1 ≡ i + 2 = omega arith in (
+    let next : i + 1 + 1 ≡ i + 2 = omega arith in
+    let four : at-two .two-pairs .result ≡ 4 = at-two .two-pairs .ensures .1 in
+    let runs-are = length-pairsInputs (cipher (v .nr) (v .w .now)) (doubled L R) in (
       omega arith,
-      at-two .two-pairs .ensures ∙ two ∙ ap (λ (j : ℕ). lay 0 (pairs (cipher (v .nr) (v .w .now)) (doubled L R) j (v .src .now)) (v .out .now)) next,
+      at-two .two-pairs .ensures .0 ∙ two ∙ ap (λ (j : ℕ). lay 0 (pairs (cipher (v .nr) (v .w .now)) (doubled L R) j (v .src .now)) (v .out .now)) next,
       (
         left-twice ∙ ap double left-is ∙ doubles-step (i + 1) L ∙ ap (λ (j : ℕ). doubles j L) next,
         right-twice ∙ ap double right-is ∙ doubles-step (i + 1) R ∙ ap (λ (j : ℕ). doubles j R) next,
       ),
       at-two .two-pairs .kept .1 .1 .1 .1 .1 .1 .1 .1 .1 .0 ∙ h .inv .3,
+      omega (arith, h .inv .4, four, runs-are i (v .src .now), runs-are (i + 2) (v .src .now)),
     )
 
 pair-requires : tie.Need-pair-requires Inv-loop μ-loop
@@ -72,6 +89,17 @@ pair-requires c κs =
     let at-loop = c .before .before .before in
     let pre = at-loop .before .before .before .before .before .pre in
     (pre .0, (pre .1 .0, (omega (arith, pre .1 .1, at-loop .loop .inv, c .before .before), omega (arith, pre .1 .1, at-loop .loop .inv, c .before .before))))
+
+add-after-pairs : tie.Need-add-after-pairs Inv-loop μ-loop
+add-after-pairs c =
+    let at-pair = c .before .before .before .before in
+    let at-loop = at-pair .before .before .before .before in
+    let start = at-loop .before .before .before .before .before in
+    let v = start .args in
+    let h = at-loop .loop in
+    let k = doubled (bytesOf (at-loop .before .before .to-words .result)) (bytesOf (at-loop .before .to-words2 .result)) in
+    let two : at-pair .pair .result ≡ 2 = at-pair .pair .ensures .1 in
+    record { fits = omega (arith, start .good, start .pre .1 .1, h .inv .0, h .inv .4, length-pairsInputs (cipher (v .nr) (v .w .now)) k (h .i) (v .src .now), two) }
 
 -- what is known of all pairs from the words' masks, said of the blocks
 module _ (i n : ℕ) (done : i ≡ n) (L R l r : List ℕ) (hL : L ≡ l) (hR : R ≡ r) where
@@ -103,9 +131,13 @@ returns c =
     let more = laid-more E (is-cipher (v .nr) (v .w .now)) L R (length-bytes _) (length-bytes _) src out in
     let one = more i (32 * i) (32 * i + 16) _ _ (h .out) refl refl (omega arith) (omega arith) (h .inv .2 .0) (h .inv .2 .1) (h .inv .1) in
     let left-is = c .before .before .double-words5 .ensures ∙ ap double (h .inv .2 .0) ∙ doubles-step i L in
-    let right-is = c .before .double-words6 .ensures ∙ ap double (h .inv .2 .1) ∙ doubles-step i R in (
-      all (i + 1) (v .n) done L R (v .l) (v .r) (left .ensures) (right .ensures) E src out _ (at-pair .pair .ensures ∙ one),
-      masks (i + 1) (v .n) done L R (v .l) (v .r) (left .ensures) (right .ensures) _ _ (c .mask-pair .ensures .0 ∙ left-is) (c .mask-pair .ensures .1 ∙ right-is),
+    let right-is = c .before .double-words6 .ensures ∙ ap double (h .inv .2 .1) ∙ doubles-step i R in
+    let two : at-pair .pair .result ≡ 2 = at-pair .pair .ensures .1 in (
+      all (i + 1) (v .n) done L R (v .l) (v .r) (left .ensures) (right .ensures) E src out _ (at-pair .pair .ensures .0 ∙ one),
+      (
+        masks (i + 1) (v .n) done L R (v .l) (v .r) (left .ensures) (right .ensures) _ _ (c .after-pairs .ensures .0 .0 ∙ left-is) (c .after-pairs .ensures .0 .1 ∙ right-is),
+        omega (arith, c .after-pairs .ensures .1, h .inv .4, two, done, length-pairsInputs E (doubled L R) i src, length-pairsInputs E (doubled (v .l) (v .r)) (v .n) src),
+      ),
     )
 
 returns-2 : tie.Need-returns-2 Inv-loop μ-loop
@@ -121,9 +153,16 @@ returns-2 c =
     let R = bytesOf (right .result) in
     let done : h .i ≡ v .n = omega arith in (
       all (h .i) (v .n) done L R (v .l) (v .r) (left .ensures) (right .ensures) E (v .src .now) (v .out .now) _ (h .inv .1),
-      masks (h .i) (v .n) done L R (v .l) (v .r) (left .ensures) (right .ensures) _ _ (c .mask-pair2 .ensures .0 ∙ h .inv .2 .0) (c .mask-pair2 .ensures .1 ∙ h .inv .2 .1),
+      (
+        masks (h .i) (v .n) done L R (v .l) (v .r) (left .ensures) (right .ensures) _ _ (c .after-pairs2 .ensures .0 .0 ∙ h .inv .2 .0) (c .after-pairs2 .ensures .0 .1 ∙ h .inv .2 .1),
+        c .after-pairs2 .ensures .1
+            ∙ h .inv .4
+            ∙ length-pairsInputs E (doubled L R) (h .i) (v .src .now)
+            ∙ ap (λ (i : ℕ). 2 * i) done
+            ∙ sym (length-pairsInputs E (doubled (v .l) (v .r)) (v .n) (v .src .now)),
+      ),
     )
 
 pub pairs-spec : {M : Type 1} → statement M
 pairs-spec =
-    tie.close (tie.spec Inv-loop μ-loop (λ c κs. search needs) (λ c κs. search needs) loop-holds (λ c. search needs) (λ c κs. search needs) (λ c κs. search needs) (λ c. search needs) two-pairs-requires (λ c κs. search needs) (λ c κs. search needs) (λ c. search needs) (λ c. search needs) loop-again (λ c. search needs) pair-requires (λ c κs. search needs) (λ c κs. search needs) (λ c κs. search needs) (λ c. search needs) returns (λ c κs. search needs) (λ c. search needs) returns-2)
+    tie.close (tie.spec Inv-loop μ-loop (λ c κs. search needs) (λ c κs. search needs) loop-holds (λ c. search needs) (λ c κs. search needs) (λ c κs. search needs) (λ c. search needs) two-pairs-requires (λ c κs. search needs) (λ c κs. search needs) add-runs (λ c. search needs) (λ c. search needs) loop-again (λ c. search needs) pair-requires (λ c κs. search needs) (λ c κs. search needs) add-after-pairs (λ c κs. search needs) (λ c. search needs) returns (λ c κs. search needs) (λ c. search needs) returns-2)

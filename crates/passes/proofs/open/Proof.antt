@@ -2,9 +2,9 @@
 use mathlib.Core.Path.{_≡_, sym, ap, ap₂, _∙_}
 use mathlib.Core.Bool.{Bool, true, false}
 use mathlib.Core.List.{List}
-use Prim.Native.Nat.{ℕ, _-_}
+use Prim.Native.Nat.{ℕ, _+_, _-_}
 use native.Mathlib.Omega.{arith}
-use lib.ListN.{length, take, drop}
+use lib.ListN.{length, take, drop, length-append}
 use lib.Seq.{length-take-le}
 use Rattle.lists.specs.Lay.{lay}
 use Rattle.lists.specs.Same.{same}
@@ -16,11 +16,12 @@ use Rattle.aes.specs.Cipher.{cipher}
 use Rattle.mode.specs.Form.{formOf}
 use Rattle.mode.specs.Masks.{Masks, third}
 use Rattle.mode.specs.Message.{te}
-use Rattle.mode.specs.Sealing.{masks, added}
+use Rattle.mode.specs.Sealing.{masks, added, callInputs}
 use Rattle.mode.specs.Opening.{Opened}
-use Rattle.mode.specs.Undoing.{unbody, answer, found as foundOf}
+use Rattle.mode.specs.Undoing.{unbody, undoneInputs, answer, found as foundOf, foundInputs}
 use Rattle.mode.proofs.Walk.{length-unbody}
 use Rattle.mode.proofs.Third.{otr-masks}
+use Rattle.mode.proofs.Runs.{length-foundInputs}
 use Rattle.passes.specs.Shown.{shown, flag}
 use Rattle.pairs.proofs.Cipher.{is-cipher}
 use Rattle.passes.proofs.Sealed.{opened-by}
@@ -55,13 +56,16 @@ plain-long c =
 
 -- once the tags are compared
 abbrev open-of : tie.After-same-tag → tie.After-open
-open-of c = c .before .before .before .before
+open-of c = c .before .before .before .before .before .before .before
 
 abbrev with-of : tie.After-same-tag → tie.After-seals-with
 with-of c = open-of c .before .before .before .before .before
 
+abbrev opening-of : tie.After-open → tie.Start
+opening-of c = c .before .before .before .before .before .before .before .before .before .before
+
 abbrev start-of : tie.After-same-tag → tie.Start
-start-of c = with-of c .before .before .before .before .before
+start-of c = opening-of (open-of c)
 
 message-is : (c : tie.After-same-tag) → open-of c .«open» .last .1 .1 .1 .1 .1 .0 ≡ lay 0 (plain (start-of c)) (start-of c .args .out .now)
 message-is c =
@@ -74,10 +78,29 @@ answer-is c =
     let start = start-of c in
     let v = start .args in
     let with = with-of c .seals-with .ensures in
-    let te-is = open-of c .«open» .ensures .1 ∙ ap (λ (x : List ℕ). te (E start) (third x) (unbody (E start) (third x) (ciphertext start))) (with .0) in
-    let x-is = c .before .xor .ensures ∙ ap₂ xor te-is (with .1) in
+    let te-is = open-of c .«open» .ensures .1 .0 ∙ ap (λ (x : List ℕ). te (E start) (third x) (unbody (E start) (third x) (ciphertext start))) (with .0) in
+    let x-is = c .before .before .before .xor .ensures ∙ ap₂ xor te-is (with .1 .0) in
     opened-by (E start) (k start) (added (E start) (formOf (v .form)) (v .n .now) (v .a .now) (v .t)) (v .t) (v .s .now) (c .same-tag .result)
     (sym (c .same-tag .ensures ∙ ap (λ (x : List ℕ). same (take (v .t) x) (drop (length (v .s .now) - v .t) (v .s .now))) x-is))
+
+-- the runs before the message pass, and its own
+runs-are : (c : tie.After-open)
+    → c .before .before .before .before .before .seals-with .result .runs + c .«open» .result .runs
+    ≡ length (foundInputs (E (opening-of c)) (formOf (opening-of c .args .form)) (opening-of c .args .n .now) (opening-of c .args .a .now) (opening-of c .args .t) (opening-of c .args .s .now))
+runs-are c =
+    let start = opening-of c in
+    let v = start .args in
+    let f = formOf (v .form) in
+    let with = c .before .before .before .before .before .seals-with .ensures in
+    ap₂ _+_ (with .1 .1) (c .«open» .ensures .1 .1 ∙ ap (λ (x : List ℕ). length (undoneInputs (E start) (third x) (ciphertext start))) (with .0))
+    ∙ sym (length-append (callInputs (E start) f (v .n .now) (v .a .now) (v .t)) (undoneInputs (E start) (k start) (ciphertext start)))
+
+add-runs : tie.Need-add-runs
+add-runs c =
+    let at-open = c .before .before .before .before .before .before in
+    let start = opening-of at-open in
+    let v = start .args in
+    record { fits = omega (arith, runs-are at-open, length-foundInputs (E start) (formOf (v .form)) (v .n .now) (v .a .now) (v .t) (v .s .now), start .good) }
 
 slice-aggregate-open : tie.Need-slice-aggregate-open
 slice-aggregate-open c = sym (cipher-long (c .before .before .before .before .before .before .before .before))
@@ -87,12 +110,18 @@ open-requires c κs =
     let start = c .before .before .before .before .before .before .before .before .before in
     (start .pre .0, (start .pre .1 .0, omega (arith, cipher-long start, start .pre .1 .1 .1)))
 
+same-tag-requires : tie.Need-same-tag-requires
+same-tag-requires c κs =
+    let pre = opening-of (c .before .before .before .before .before .before) .pre in
+    (pre .1 .1 .0 .1 .1, omega (arith, pre .1 .1 .1))
+
 returns : tie.Need-returns
 returns c =
     let d = c .before in
     let start = start-of d in
     let is : found start ≡ answer true (plain start) = answer-is d ∙ ap (λ (b : Bool). answer b (plain start)) (c .if1 .taken) in
-    (sym (ap flag is), message-is d ∙ sym (ap (λ (o : Opened). shown o (length (start .args .s .now) - start .args .t) (start .args .out .now)) is))
+    let shown-is = message-is d ∙ sym (ap (λ (o : Opened). shown o (length (start .args .s .now) - start .args .t) (start .args .out .now)) is) in
+    (sym (ap flag is), (shown-is, runs-are (open-of d)))
 
 clear-requires : tie.Need-clear-requires
 clear-requires c κs =
@@ -107,12 +136,15 @@ returns-2 c =
     let out = start .args .out .now in
     let is : found start ≡ answer false (plain start) = answer-is d ∙ ap (λ (b : Bool). answer b (plain start)) (c .before .before .before .before .if1 .left) in (
       sym (ap flag is),
-      c .before .before .clear .ensures
-          ∙ ap (lay 0 (zeros n)) (message-is d)
-          ∙ lay-over (plain start) (zeros n) out (omega (arith, plain-long start, length-zeros n))
-          ∙ sym (ap (λ (o : Opened). shown o n out) is),
+      (
+        c .before .before .clear .ensures
+            ∙ ap (lay 0 (zeros n)) (message-is d)
+            ∙ lay-over (plain start) (zeros n) out (omega (arith, plain-long start, length-zeros n))
+            ∙ sym (ap (λ (o : Opened). shown o n out) is),
+        runs-are (open-of d),
+      ),
     )
 
 pub open-spec : {M : Type 1} → statement M
 open-spec =
-    tie.close (tie.spec (λ c. search needs) (λ c κs. search needs) slice-aggregate-open open-requires (λ c κs. search needs) (λ c κs. search needs) (λ c. search needs) returns clear-requires (λ c. search needs) returns-2)
+    tie.close (tie.spec (λ c. search needs) (λ c κs. search needs) slice-aggregate-open open-requires (λ c κs. search needs) add-runs same-tag-requires (λ c. search needs) returns clear-requires (λ c. search needs) returns-2)

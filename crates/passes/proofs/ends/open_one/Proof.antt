@@ -7,8 +7,8 @@ use Rattle.passes.proofs.ends.open_one.Tie as tie
 
 returns : tie.Need-returns
 returns c =
-    let at-one = c .before .before .before in
-    (at-one .one .ensures .0, c .pad .ensures ∙ ap pad (at-one .one .ensures .1))
+    let one = c .before .before .before .before .one .ensures in
+    (one .0, (c .pad .ensures ∙ ap pad (one .1 .0), one .1 .1))
 
 pub open-one-spec : {M : Type 1} → statement M
 open-one-spec = tie.close (tie.spec (λ c. search needs) (λ c κs. search needs) (λ c κs. search needs) (λ c. search needs) returns)

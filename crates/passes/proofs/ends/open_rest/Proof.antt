@@ -6,7 +6,7 @@ use lib.ListN.{length, drop}
 use borrow.Author.Tests.{lt-ltb, le-ltb}
 use Rattle.lists.specs.Lay.{lay}
 use Rattle.aes.specs.Cipher.{cipher}
-use Rattle.mode.specs.Undoing.{unending, undoneSum}
+use Rattle.mode.specs.Undoing.{unending, unendingInputs, undoneSum}
 use borrow.Author.Needs.{needs}
 use Rattle.passes.proofs.ends.open_rest.Statement.{statement}
 use Rattle.passes.proofs.ends.open_rest.Tie as tie
@@ -20,7 +20,10 @@ returns c =
     let x = drop (v .at) (v .c .now) in
     let is = lt-ltb (v .at + 16) (length (v .c .now)) (branch .if1 .taken) in (
       at-call .open-two .ensures .0 ∙ sym (ap (λ (t : Bool). lay (v .at) (unending E t (v .l) (v .r) x) (v .out .now)) is),
-      at-call .open-two .ensures .1 ∙ sym (ap (λ (t : Bool). undoneSum E t (v .l) (v .r) x) is),
+      (
+        at-call .open-two .ensures .1 .0 ∙ sym (ap (λ (t : Bool). undoneSum E t (v .l) (v .r) x) is),
+        at-call .open-two .ensures .1 .1 ∙ sym (ap (λ (t : Bool). length (unendingInputs E t (v .l) (v .r) x)) is),
+      ),
     )
 
 returns-2 : tie.Need-returns-2
@@ -32,7 +35,10 @@ returns-2 c =
     let x = drop (v .at) (v .c .now) in
     let is = le-ltb (v .at + 16) (length (v .c .now)) (branch .if1 .left) in (
       at-call .open-one .ensures .0 ∙ sym (ap (λ (t : Bool). lay (v .at) (unending E t (v .l) (v .r) x) (v .out .now)) is),
-      at-call .open-one .ensures .1 ∙ sym (ap (λ (t : Bool). undoneSum E t (v .l) (v .r) x) is),
+      (
+        at-call .open-one .ensures .1 .0 ∙ sym (ap (λ (t : Bool). undoneSum E t (v .l) (v .r) x) is),
+        at-call .open-one .ensures .1 .1 ∙ sym (ap (λ (t : Bool). length (unendingInputs E t (v .l) (v .r) x)) is),
+      ),
     )
 
 pub open-rest-spec : {M : Type 1} → statement M

@@ -17,9 +17,9 @@ use Rattle.passes.proofs.ends.open_two.Tie as tie
 
 returns : tie.Need-returns
 returns c =
-    let at-put = c .before .before .before in
+    let at-put = c .before .before .before .before in
     let at-encrypt = at-put .before .before .before in
-    let at-half = at-encrypt .before .before in
+    let at-half = at-encrypt .before .before .before in
     let at-pad = at-half .before .before in
     let start = at-pad .before .before .before .before in
     let v = start .args in
@@ -30,13 +30,13 @@ returns c =
     let y-long = second-long (v .c .now) (v .at) in
     let y-is = at-pad .before .read .ensures ∙ ap filled (second-whole (v .c .now) (v .at)) in
     let padded-is = at-pad .pad .ensures ∙ ap (λ (l : List ℕ). pad (take n l)) y-is ∙ ap pad (part-filled y n y-long) in
-    let first-is : at-half .half .result ≡ first E (v .r) x = at-half .half .ensures ∙ ap₂ (half E (v .r)) padded-is (at-half .before .read-block .ensures) in
+    let first-is : at-half .half .result .block ≡ first E (v .r) x = at-half .half .ensures .0 ∙ ap₂ (half E (v .r)) padded-is (at-half .before .read-block .ensures) in
     let z-is = at-encrypt .encrypt .ensures ∙ ap E (at-encrypt .before .xor .ensures ∙ ap (xor (v .l)) first-is) in
     let last-is = ap (take n) (at-put .before .xor2 .ensures ∙ ap₂ xor y-is z-is) ∙ part-xor y (E (xor (v .l) (first E (v .r) x))) n y-long in (
       at-put .put-two .ensures ∙ ap (λ (l : List ℕ). lay (v .at) l (v .out .now)) (ap₂ _++_ first-is last-is),
-      c .xor3 .ensures ∙ ap₂ xor z-is padded-is,
+      (c .before .xor3 .ensures ∙ ap₂ xor z-is padded-is, ap (λ (k : ℕ). k + 1) (at-half .half .ensures .1)),
     )
 
 pub open-two-spec : {M : Type 1} → statement M
 open-two-spec =
-    tie.close (tie.spec (λ c. search needs) (λ c. search needs) (λ c. search needs) (λ c κs. search needs) (λ c κs. search needs) (λ c κs. search needs) (λ c κs. search needs) (λ c κs. search needs) (λ c κs. search needs) (λ c κs. search needs) (λ c κs. search needs) (λ c κs. search needs) (λ c. search needs) returns)
+    tie.close (tie.spec (λ c. search needs) (λ c. search needs) (λ c. search needs) (λ c κs. search needs) (λ c κs. search needs) (λ c κs. search needs) (λ c κs. search needs) (λ c κs. search needs) (λ c κs. search needs) (λ c κs. search needs) (λ c κs. search needs) (λ c κs. search needs) (λ c. search needs) (λ c. search needs) returns)

@@ -16,10 +16,9 @@ returns c =
     let v = at-one .before .before .before .before .args in
     let m = v .m .now in
     let n = length m - v .at in
-    let read-is = c .before .read .ensures ∙ ap filled (rest-whole m (v .at)) in (
-      at-one .one .ensures .0,
-      c .pad .ensures ∙ ap (λ (l : List ℕ). pad (take n l)) read-is ∙ ap pad (part-filled (drop (v .at) m) n (length-drop (v .at) m)),
-    )
+    let read-is = c .before .read .ensures ∙ ap filled (rest-whole m (v .at)) in
+    let padded-is = c .pad .ensures ∙ ap (λ (l : List ℕ). pad (take n l)) read-is ∙ ap pad (part-filled (drop (v .at) m) n (length-drop (v .at) m)) in
+    (at-one .one .ensures .0, (padded-is, at-one .one .ensures .1 .1))
 
 pub seal-one-spec : {M : Type 1} → statement M
 seal-one-spec =

@@ -6,7 +6,7 @@ use lib.ListN.{length, drop}
 use borrow.Author.Tests.{lt-ltb, le-ltb}
 use Rattle.lists.specs.Lay.{lay}
 use Rattle.aes.specs.Cipher.{cipher}
-use Rattle.mode.specs.Message.{ending, endSum}
+use Rattle.mode.specs.Message.{ending, endingInputs, endSum}
 use borrow.Author.Needs.{needs}
 use Rattle.passes.proofs.ends.seal_rest.Statement.{statement}
 use Rattle.passes.proofs.ends.seal_rest.Tie as tie
@@ -20,7 +20,10 @@ returns c =
     let x = drop (v .at) (v .m .now) in
     let is = lt-ltb (v .at + 16) (length (v .m .now)) (branch .if1 .taken) in (
       at-call .seal-two .ensures .0 ∙ sym (ap (λ (t : Bool). lay (v .at) (ending E t (v .l) (v .r) x) (v .out .now)) is),
-      at-call .seal-two .ensures .1 ∙ sym (ap (λ (t : Bool). endSum E t (v .l) x) is),
+      (
+        at-call .seal-two .ensures .1 .0 ∙ sym (ap (λ (t : Bool). endSum E t (v .l) x) is),
+        at-call .seal-two .ensures .1 .1 ∙ sym (ap (λ (t : Bool). length (endingInputs E t (v .l) (v .r) x)) is),
+      ),
     )
 
 returns-2 : tie.Need-returns-2
@@ -32,7 +35,10 @@ returns-2 c =
     let x = drop (v .at) (v .m .now) in
     let is = le-ltb (v .at + 16) (length (v .m .now)) (branch .if1 .left) in (
       at-call .seal-one .ensures .0 ∙ sym (ap (λ (t : Bool). lay (v .at) (ending E t (v .l) (v .r) x) (v .out .now)) is),
-      at-call .seal-one .ensures .1 ∙ sym (ap (λ (t : Bool). endSum E t (v .l) x) is),
+      (
+        at-call .seal-one .ensures .1 .0 ∙ sym (ap (λ (t : Bool). endSum E t (v .l) x) is),
+        at-call .seal-one .ensures .1 .1 ∙ sym (ap (λ (t : Bool). length (endingInputs E t (v .l) (v .r) x)) is),
+      ),
     )
 
 pub seal-rest-spec : {M : Type 1} → statement M

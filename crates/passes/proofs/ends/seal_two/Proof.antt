@@ -16,8 +16,8 @@ use Rattle.passes.proofs.ends.seal_two.Tie as tie
 
 returns : tie.Need-returns
 returns c =
-    let at-put = c .before .before .before in
-    let at-half = at-put .before .before in
+    let at-put = c .before .before .before .before in
+    let at-half = at-put .before .before .before in
     let at-pad = at-half .before in
     let at-encrypt = at-pad .before .before .before in
     let start = at-encrypt .before .before .before .before .before in
@@ -33,11 +33,11 @@ returns c =
     let last-is : take n (at-pad .before .xor2 .result) ≡ last E (v .l) x =
     ap (take n) (at-pad .before .xor2 .ensures ∙ ap₂ xor y-is z-is) ∙ part-xor y (z E (v .l) x) n y-long in
     let padded-is : at-pad .pad .result ≡ pad (last E (v .l) x) = at-pad .pad .ensures ∙ ap pad last-is in
-    let before-is = at-half .half .ensures ∙ ap₂ (half E (v .r)) padded-is p-is in (
-      at-put .put-two .ensures ∙ ap (λ (l : List ℕ). lay (v .at) l (v .out .now)) (ap₂ _++_ before-is last-is),
-      c .xor3 .ensures ∙ ap₂ xor z-is padded-is,
+    let first-is = at-half .half .ensures .0 ∙ ap₂ (half E (v .r)) padded-is p-is in (
+      at-put .put-two .ensures ∙ ap (λ (l : List ℕ). lay (v .at) l (v .out .now)) (ap₂ _++_ first-is last-is),
+      (c .before .xor3 .ensures ∙ ap₂ xor z-is padded-is, ap (λ (k : ℕ). 1 + k) (at-half .half .ensures .1)),
     )
 
 pub seal-two-spec : {M : Type 1} → statement M
 seal-two-spec =
-    tie.close (tie.spec (λ c. search needs) (λ c. search needs) (λ c κs. search needs) (λ c κs. search needs) (λ c κs. search needs) (λ c. search needs) (λ c κs. search needs) (λ c κs. search needs) (λ c κs. search needs) (λ c κs. search needs) (λ c κs. search needs) (λ c κs. search needs) (λ c. search needs) returns)
+    tie.close (tie.spec (λ c. search needs) (λ c. search needs) (λ c κs. search needs) (λ c κs. search needs) (λ c κs. search needs) (λ c. search needs) (λ c κs. search needs) (λ c κs. search needs) (λ c κs. search needs) (λ c κs. search needs) (λ c κs. search needs) (λ c κs. search needs) (λ c. search needs) (λ c. search needs) returns)
