@@ -19,7 +19,7 @@ extern void qemu_plugin_register_atexit_cb(plugin_id, void (*)(plugin_id, void *
 
 __attribute__((visibility("default"))) int qemu_plugin_version = 1;
 
-/* Both programs have one thread. */
+/* Each program has one thread. */
 static uint64_t executed;
 
 static void block_executed(unsigned cpu, void *instructions)

@@ -1,15 +1,20 @@
-//! The forward cipher of FIPS 197, for keys of 16, 24 and 32 bytes. It counts how many
-//! times it ran (wish 6 of 02).
+//! The forward cipher of FIPS 197, for keys of 16, 24 and 32 bytes, and over round keys as
+//! a record holds them (wish 9 of 02). It counts how many times it ran (wish 6).
 
 use std::cell::Cell;
 use std::sync::OnceLock;
 
-use crate::block::{xor, Block, ZERO};
+use crate::block::{full, xor, Block, BLOCK_BYTES, ZERO};
+
+/// The round keys, one behind the other, with room for the 60 words of 14 rounds.
+pub type RoundKeys = [u8; 240];
+pub const ZERO_ROUND_KEYS: RoundKeys = [0; 240];
 
 type Word = [u8; 4];
 
 pub struct Aes {
-    round_keys: Vec<Block>,
+    pub rounds: usize,
+    pub round_keys: RoundKeys,
     runs: Cell<usize>,
 }
 
@@ -22,9 +27,17 @@ impl Aes {
             32 => 14,
             _ => return None,
         };
-        let words = expand_key(key, rounds);
-        let round_keys = words.chunks(4).map(join).collect();
+        Aes::over(rounds, join(&expand_key(key, rounds)))
+    }
+
+    /// None where there are not 10, 12 or 14 rounds. The round keys are taken as they stand;
+    /// what is behind those of the last round is not read.
+    pub fn over(rounds: usize, round_keys: RoundKeys) -> Option<Aes> {
+        if !matches!(rounds, 10 | 12 | 14) {
+            return None;
+        }
         Some(Aes {
+            rounds,
             round_keys,
             runs: Cell::new(0),
         })
@@ -33,19 +46,22 @@ impl Aes {
     /// Byte r + 4c of a block is row r, column c of the state.
     pub fn cipher(&self, input: &Block) -> Block {
         self.runs.set(self.runs.get() + 1);
-        let last = self.round_keys.len() - 1;
-        let mut state = xor(input, &self.round_keys[0]);
-        for round_key in &self.round_keys[1..last] {
+        let mut state = xor(input, &self.round_key(0));
+        for round in 1..self.rounds {
             state = mix_columns(&shift_rows(&sub_bytes(&state)));
-            state = xor(&state, round_key);
+            state = xor(&state, &self.round_key(round));
         }
         state = shift_rows(&sub_bytes(&state));
-        xor(&state, &self.round_keys[last])
+        xor(&state, &self.round_key(self.rounds))
     }
 
     /// How many times `cipher` ran with this key so far.
     pub fn runs(&self) -> usize {
         self.runs.get()
+    }
+
+    fn round_key(&self, round: usize) -> Block {
+        full(&self.round_keys[BLOCK_BYTES * round..][..BLOCK_BYTES])
     }
 }
 
@@ -70,12 +86,13 @@ fn expand_key(key: &[u8], rounds: usize) -> Vec<Word> {
     w
 }
 
-fn join(words: &[Word]) -> Block {
-    let mut block = ZERO;
-    for (byte, word_byte) in block.iter_mut().zip(words.iter().flatten()) {
+/// The words in front; what they do not fill is zero.
+fn join(words: &[Word]) -> RoundKeys {
+    let mut round_keys = ZERO_ROUND_KEYS;
+    for (byte, word_byte) in round_keys.iter_mut().zip(words.iter().flatten()) {
         *byte = *word_byte;
     }
-    block
+    round_keys
 }
 
 fn sub_word(word: Word) -> Word {

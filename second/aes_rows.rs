@@ -1,6 +1,7 @@
 //! The command `aes-rows`: two rows in each form with AES in E's place.
 
 use crate::aes::Aes;
+use crate::data_pass::FirstMask;
 use crate::form::Form;
 use crate::rows::Row;
 use crate::rules;
@@ -26,7 +27,7 @@ fn line(form: Form, key_bytes: usize, message: usize, data: usize) -> String {
         k: 12,
         t: 16,
     };
-    let rest = row.lengths_and_sealed(&|b| aes.cipher(b));
+    let rest = row.lengths_and_sealed(&|b| aes.cipher(b), FirstMask::Ciphered);
     format!("{} {} {}", row.form_number(), key_bytes, rest)
 }
 

@@ -1,10 +1,13 @@
 //! The call level: 01, "Numbers a call may carry" and "What comes back", with wish 1 of 02:
 //! each call names its form, and one that is neither parallel (0) nor serial (1) is refused
-//! with 8 before all else; with wish 5: a nonce has 1 to 15 bytes; and with wish 6: an answer
-//! reports how many times the cipher ran. Each call has a cipher of its own, which counts.
+//! with 8 before all else; with wish 5: a nonce has 1 to 15 bytes; with wish 6: an answer
+//! reports how many times the cipher ran; and with wish 9: a call takes a raw key or a record.
+//! Each call has a cipher of its own, which counts.
 
 use crate::aes::Aes;
+use crate::data_pass::FirstMask;
 use crate::form::Form;
+use crate::key::Key;
 use crate::otr::{otr_d, otr_e};
 
 pub const DATA_MAX: usize = 4_096;
@@ -18,50 +21,40 @@ pub struct Answer {
 
 pub fn seal(
     form: usize,
-    key: &[u8],
+    key: &Key,
     nonce: &[u8],
     data: &[u8],
     message: &[u8],
     t: usize,
     output: &mut [u8],
 ) -> Answer {
-    let Some(form) = Form::named(form) else {
-        return refused(8);
+    let (form, aes, mask) = match checked_to_4(form, key, nonce, data, t) {
+        Ok(checked) => checked,
+        Err(number) => return refused(number),
     };
-    let Some(aes) = Aes::new(key) else {
-        return refused(1);
-    };
-    if let Some(number) = refusal_2_to_4(nonce, data, t) {
-        return refused(number);
-    }
     if message.len() > MESSAGE_MAX {
         return refused(5);
     }
     if output.len() < message.len() + t {
         return refused(6);
     }
-    let (c, tag) = otr_e(form, &|b| aes.cipher(b), t, nonce, data, message);
+    let (c, tag) = otr_e(form, &|b| aes.cipher(b), mask, t, nonce, data, message);
     done(&[c, tag].concat(), aes.runs(), output)
 }
 
 pub fn open(
     form: usize,
-    key: &[u8],
+    key: &Key,
     nonce: &[u8],
     data: &[u8],
     sealed: &[u8],
     t: usize,
     output: &mut [u8],
 ) -> Answer {
-    let Some(form) = Form::named(form) else {
-        return refused(8);
+    let (form, aes, mask) = match checked_to_4(form, key, nonce, data, t) {
+        Ok(checked) => checked,
+        Err(number) => return refused(number),
     };
-    let Some(aes) = Aes::new(key) else {
-        return refused(1);
-    };
-    if let Some(number) = refusal_2_to_4(nonce, data, t) {
-        return refused(number);
-    }
     if sealed.len() < t || sealed.len() > MESSAGE_MAX + t {
         return refused(5);
     }
@@ -70,7 +63,7 @@ pub fn open(
         return refused(6);
     }
     let (c, tag) = sealed.split_at(message_bytes);
-    match otr_d(form, &|b| aes.cipher(b), nonce, data, c, tag) {
+    match otr_d(form, &|b| aes.cipher(b), mask, nonce, data, c, tag) {
         Some(message) => done(&message, aes.runs(), output),
         None => {
             output[..message_bytes].fill(0);
@@ -82,15 +75,24 @@ pub fn open(
     }
 }
 
-fn refusal_2_to_4(nonce: &[u8], data: &[u8], t: usize) -> Option<u8> {
+/// 8, then 1 to 4: the number of the refusal, or what the passes need.
+fn checked_to_4(
+    form: usize,
+    key: &Key,
+    nonce: &[u8],
+    data: &[u8],
+    t: usize,
+) -> Result<(Form, Aes, FirstMask), u8> {
+    let form = Form::named(form).ok_or(8)?;
+    let (aes, first_mask) = key.cipher().ok_or(1)?;
     if !(1..=15).contains(&nonce.len()) {
-        Some(2)
+        Err(2)
     } else if !(4..=16).contains(&t) {
-        Some(3)
+        Err(3)
     } else if data.len() > DATA_MAX {
-        Some(4)
+        Err(4)
     } else {
-        None
+        Ok((form, aes, first_mask))
     }
 }
 

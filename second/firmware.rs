@@ -1,18 +1,16 @@
 //! The command `firmware`: the requests of the host program, which calls the library from C.
 
-use crate::call::DATA_MAX;
 use crate::failure::{bad_input, Failure};
 use crate::files;
 use crate::generator::Generator;
 use crate::request::{Kind, Request};
-use crate::seam_lengths::{Lengths, MESSAGES, USUAL};
+use crate::seam_lengths::{Lengths, DATA, MESSAGES, USUAL};
 use crate::seam_requests::{other_bytes, sealing, two_faults};
 
 const SEED: u64 = u64::MAX - 1;
 const KEYS: [usize; 3] = [16, 24, 32];
 const NONCES: [usize; 3] = [1, 12, 15];
 const TAGS: [usize; 3] = [4, 15, 16];
-const DATA: [usize; 6] = [0, 1, 15, 16, 17, DATA_MAX];
 const BEYOND_32_BITS: usize = 1 << 32;
 
 pub fn command(form: &str, file_requests: &str, file_answers: &str) -> Result<String, Failure> {

@@ -1,5 +1,5 @@
 //! Shaftladder's independent second program: AES-OTR v3.1 with parallel and serial ADP,
-//! written from the paper (000) and the exact rules (01, and wishes 1, 5 and 6 of 02)
+//! written from the paper (000) and the exact rules (01, and wishes 1, 5, 6 and 9 of 02)
 //! alone. See README.md.
 
 mod aes;
@@ -8,16 +8,23 @@ mod bits;
 mod block;
 mod call;
 mod data_pass;
+mod exchange;
 mod failure;
 mod files;
 mod firmware;
 mod form;
 mod generator;
 mod hex;
+mod key;
 mod known;
 mod message_pass;
 mod otr;
+mod prepared;
+#[cfg(test)]
+mod prepared_tests;
+mod random_prepared;
 mod random_requests;
+mod record;
 mod request;
 mod requests;
 mod rows;
@@ -68,11 +75,13 @@ fn run(words: &[String]) -> Result<String, Failure> {
     };
     match (command.as_str(), rest) {
         ("standin", []) => Ok(standin::command()),
+        ("standin-lent", []) => Ok(standin::command_lent()),
         ("aes-rows", []) => Ok(aes_rows::command()),
         ("seams", [requests, answers]) => seams::command(requests, answers),
         ("tour", [requests, answers]) => tour::command(requests, answers),
         ("firmware", [form, requests, answers]) => firmware::command(form, requests, answers),
         ("requests", _) => requests::command(rest),
+        ("prepared", _) => prepared::command(rest),
         ("known", _) => known::command(rest),
         _ => Err(usage()),
     }
@@ -80,11 +89,13 @@ fn run(words: &[String]) -> Result<String, Failure> {
 
 fn usage() -> Failure {
     let text = "usage: second standin\n\
+                \u{20}      second standin-lent\n\
                 \u{20}      second aes-rows\n\
                 \u{20}      second seams FILE_REQUESTS FILE_ANSWERS\n\
                 \u{20}      second tour FILE_REQUESTS FILE_ANSWERS\n\
                 \u{20}      second firmware FORM FILE_REQUESTS FILE_ANSWERS\n\
                 \u{20}      second requests SEED COUNT FILE_REQUESTS FILE_ANSWERS\n\
+                \u{20}      second prepared SEED COUNT FILE_REQUESTS FILE_ANSWERS\n\
                 \u{20}      second known FILE...";
     bad_input(text.to_string())
 }

@@ -1,15 +1,24 @@
 //! OTR over any block cipher E: with parallel ADP (000, figure 1) and with serial ADP
-//! (000, figure 3). The tag length t is in bytes, tau = 8t.
+//! (000, figure 3). The tag length t is in bytes, tau = 8t. The data pass's first mask is
+//! E(0^n) or lent (wish 9 of 02).
 
 use crate::bits::{bits_of, bytes_of, n2s, zeros};
 use crate::block::{double, full, xor, Block, Cipher, BLOCK_BITS, ZERO};
-use crate::data_pass::{af, af_s};
+use crate::data_pass::{af, af_s, FirstMask};
 use crate::form::Form;
 use crate::message_pass::{df, ef};
 
 /// OTR-E: the ciphertext C and the tag T.
-pub fn otr_e(form: Form, e: Cipher, t: usize, n: &[u8], a: &[u8], m: &[u8]) -> (Vec<u8>, Vec<u8>) {
-    let ta = ta(form, e, a);
+pub fn otr_e(
+    form: Form,
+    e: Cipher,
+    first_mask: FirstMask,
+    t: usize,
+    n: &[u8],
+    a: &[u8],
+    m: &[u8],
+) -> (Vec<u8>, Vec<u8>) {
+    let ta = ta(form, e, first_mask, a);
     let (c, te) = ef(e, &u(form, e, t, n, &ta), m);
     (c, tag(form, t, &te, &ta))
 }
@@ -18,13 +27,14 @@ pub fn otr_e(form: Form, e: Cipher, t: usize, n: &[u8], a: &[u8], m: &[u8]) -> (
 pub fn otr_d(
     form: Form,
     e: Cipher,
+    first_mask: FirstMask,
     n: &[u8],
     a: &[u8],
     c: &[u8],
     tag_given: &[u8],
 ) -> Option<Vec<u8>> {
     let t = tag_given.len();
-    let ta = ta(form, e, a);
+    let ta = ta(form, e, first_mask, a);
     let (m, te) = df(e, &u(form, e, t, n, &ta), c);
     if tag(form, t, &te, &ta) == tag_given {
         Some(m)
@@ -34,13 +44,14 @@ pub fn otr_d(
 }
 
 /// OTR-E and OTR-D: figure 1, lines 2 and 3; figure 3, lines 1 and 2.
-fn ta(form: Form, e: Cipher, a: &[u8]) -> Block {
+fn ta(form: Form, e: Cipher, first_mask: FirstMask, a: &[u8]) -> Block {
     if a.is_empty() {
         return ZERO;
     }
+    let q = first_mask.q(e);
     match form {
-        Form::Parallel => af(e, a),
-        Form::Serial => af_s(e, a),
+        Form::Parallel => af(e, q, a),
+        Form::Serial => af_s(e, q, a),
     }
 }
 

@@ -2,10 +2,16 @@
 
 use crate::call::{DATA_MAX, MESSAGE_MAX};
 use crate::generator::Generator;
+use crate::key::Key;
 use crate::request::{Kind, Request};
 
 pub fn random_request(draw: &mut Generator) -> Request {
     let sealing = sound_sealing(draw);
+    random_call(draw, sealing)
+}
+
+/// The sealing, or an opening from it.
+pub fn random_call(draw: &mut Generator, sealing: Request) -> Request {
     let mut request = match draw.below(4) {
         0 | 1 => sealing,
         2 => opening_of_sealed(draw, sealing),
@@ -20,7 +26,7 @@ pub fn random_request(draw: &mut Generator) -> Request {
     request
 }
 
-fn sound_sealing(draw: &mut Generator) -> Request {
+pub fn sound_sealing(draw: &mut Generator) -> Request {
     let key_bytes = draw.pick(&[16, 24, 32]);
     let nonce_bytes = draw.pick(&[12, 12, 12, 1, 2, 3, 4, 5, 6, 7, 8, 9, 10, 11, 13, 14, 15]);
     let data_bytes = if draw.one_in(4) { 0 } else { some_length(draw) };
@@ -33,7 +39,7 @@ fn sound_sealing(draw: &mut Generator) -> Request {
     Request {
         kind: Kind::Seal,
         form: draw.below(2),
-        key: draw.bytes(key_bytes),
+        key: Key::Raw(draw.bytes(key_bytes)),
         nonce: draw.bytes(nonce_bytes),
         data: draw.bytes(data_bytes),
         body: draw.bytes(message_bytes),
@@ -87,10 +93,7 @@ fn mishap(draw: &mut Generator, request: &mut Request) {
             let len = DATA_MAX + 1 + draw.below(100);
             request.data = draw.bytes(len);
         }
-        1..=4 => {
-            let len = draw.pick(&[0, 1, 15, 17, 23, 25, 31, 33, 64]);
-            request.key = draw.bytes(len);
-        }
+        1..=4 => wrong_key(draw, &mut request.key),
         5..=8 => {
             let len = draw.pick(&[0, 16, 17, 20]);
             request.nonce = draw.bytes(len);
@@ -104,6 +107,17 @@ fn mishap(draw: &mut Generator, request: &mut Request) {
         // 0 and 1 change places; a form that is neither stays neither.
         29..=31 => request.form ^= 1,
         _ => wrong_bit(draw, request),
+    }
+}
+
+/// A raw key of another length; a record with other rounds.
+fn wrong_key(draw: &mut Generator, key: &mut Key) {
+    match key {
+        Key::Raw(bytes) => {
+            let len = draw.pick(&[0, 1, 15, 17, 23, 25, 31, 33, 64]);
+            *bytes = draw.bytes(len);
+        }
+        Key::Prepared(record) => record.rounds = draw.pick(&[0, 1, 9, 11, 13, 15, 16, 266, 65_535]),
     }
 }
 
@@ -129,7 +143,7 @@ fn one_byte_short(request: &mut Request) {
 
 fn wrong_bit(draw: &mut Generator, request: &mut Request) {
     let string = match draw.below(5) {
-        0 => &mut request.key,
+        0 => request.key.bytes_mut(),
         1 => &mut request.nonce,
         2 => &mut request.data,
         _ => &mut request.body,

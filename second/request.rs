@@ -1,7 +1,9 @@
-//! One request to the library, and the answer that it must give.
+//! One sealing or opening that the library is asked for, and the answer that it must give.
 
 use crate::call::{open, seal, Answer};
 use crate::hex;
+use crate::key::Key;
+use crate::record::Record;
 
 /// What the output buffer holds everywhere before the call.
 const FILL: u8 = 0xa5;
@@ -16,7 +18,7 @@ pub enum Kind {
 pub struct Request {
     pub kind: Kind,
     pub form: usize,
-    pub key: Vec<u8>,
+    pub key: Key,
     pub nonce: Vec<u8>,
     pub data: Vec<u8>,
     /// The message when sealing, the sealed bytes when opening.
@@ -61,15 +63,32 @@ impl Request {
         })
     }
 
-    /// `seal|open FORM KEY NONCE DATA BODY TAG ROOM` and the end of the line.
+    /// The same under its key's record, or under its record, after a change to that.
+    pub fn under_record(&self, change: impl FnOnce(&mut Record)) -> Request {
+        let mut record = self.key.record();
+        change(&mut record);
+        Request {
+            key: Key::Prepared(Box::new(record)),
+            ..self.clone()
+        }
+    }
+
+    /// `seal|open FORM KEY NONCE DATA BODY TAG ROOM`, or
+    /// `seal-with|open-with FORM ROUNDS WORDS ZERO NONCE DATA BODY TAG ROOM`, and the end of
+    /// the line.
     pub fn request_line(&self) -> String {
         let name = match self.kind {
             Kind::Seal => "seal",
             Kind::Open => "open",
         };
-        let strings = [&self.key, &self.nonce, &self.data, &self.body];
+        let (with, key) = match &self.key {
+            Key::Raw(key) => ("", hex::field(key)),
+            Key::Prepared(record) => ("-with", record.fields()),
+        };
+        let (form, t, room) = (self.form, self.t, self.room);
+        let strings = [&self.nonce, &self.data, &self.body];
         let fields = strings.map(|bytes| hex::field(bytes)).join(" ");
-        format!("{name} {} {fields} {} {}\n", self.form, self.t, self.room)
+        format!("{name}{with} {form} {key} {fields} {t} {room}\n")
     }
 
     /// `NUMBER LENGTH RUNS OUTPUT` and the end of the line.

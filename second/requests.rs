@@ -1,5 +1,7 @@
-//! The command `requests`: the file of requests and the file of answers.
+//! The command `requests`, and what it shares with `prepared`: the file of requests and the
+//! file of answers.
 
+use crate::exchange::Exchange;
 use crate::failure::{bad_input, Failure};
 use crate::files;
 use crate::generator::Generator;
@@ -10,22 +12,36 @@ use crate::seam_requests::seam_requests;
 const COUNT_MAX: u64 = 100_000;
 
 pub fn command(arguments: &[String]) -> Result<String, Failure> {
-    let [seed, count, file_requests, file_answers] = arguments else {
-        let usage = "requests: expected SEED COUNT FILE_REQUESTS FILE_ANSWERS";
-        return Err(bad_input(usage.to_string()));
-    };
-    let draw = &mut Generator::new(number("SEED", seed)?);
-    let count = number("COUNT", count)?;
-    if count > COUNT_MAX {
-        return Err(bad_input(format!("requests: COUNT is over {COUNT_MAX}")));
-    }
-    let mut requests = seam_requests();
-    requests.extend((0..count).map(|_| random_request(draw)));
-    files::write_requests(&requests, file_requests, file_answers)?;
-    Ok(format!("requests {}\n", requests.len()))
+    let fixed = || seam_requests().iter().map(Exchange::of_call).collect();
+    let random = |draw: &mut Generator| Exchange::of_call(&random_request(draw));
+    write_seeded("requests", arguments, fixed, random)
 }
 
-fn number(name: &str, text: &str) -> Result<u64, Failure> {
+/// `SEED COUNT FILE_REQUESTS FILE_ANSWERS`: the fixed ones, then COUNT random ones.
+pub fn write_seeded(
+    command: &str,
+    arguments: &[String],
+    fixed: fn() -> Vec<Exchange>,
+    random: fn(&mut Generator) -> Exchange,
+) -> Result<String, Failure> {
+    let bad = |what: String| bad_input(format!("{command}: {what}"));
+    let [seed, count, file_requests, file_answers] = arguments else {
+        let usage = "expected SEED COUNT FILE_REQUESTS FILE_ANSWERS";
+        return Err(bad(usage.to_string()));
+    };
+    let draw = &mut Generator::new(number("SEED", seed).map_err(bad)?);
+    let count = number("COUNT", count).map_err(bad)?;
+    if count > COUNT_MAX {
+        return Err(bad(format!("COUNT is over {COUNT_MAX}")));
+    }
+    let mut exchanges = fixed();
+    exchanges.extend((0..count).map(|_| random(draw)));
+    let written = format!("{command} {}\n", exchanges.len());
+    files::write_exchanges(exchanges.into_iter(), file_requests, file_answers)?;
+    Ok(written)
+}
+
+fn number(name: &str, text: &str) -> Result<u64, String> {
     text.parse()
-        .map_err(|_| bad_input(format!("requests: {name} is not a number: {text}")))
+        .map_err(|_| format!("{name} is not a number: {text}"))
 }

@@ -4,6 +4,7 @@
 use std::cell::Cell;
 
 use crate::block::{Block, Cipher};
+use crate::data_pass::FirstMask;
 use crate::form::Form;
 use crate::hex;
 use crate::otr::otr_e;
@@ -24,7 +25,7 @@ impl Row {
     }
 
     /// `MESSAGELEN DATALEN K T RUNS HEX` and the end of the line.
-    pub fn lengths_and_sealed(&self, e: Cipher) -> String {
+    pub fn lengths_and_sealed(&self, e: Cipher, first_mask: FirstMask) -> String {
         let runs = Cell::new(0);
         let counted = |b: &Block| {
             runs.set(runs.get() + 1);
@@ -32,7 +33,7 @@ impl Row {
         };
         let (n, a) = (rules::nonce(self.k), rules::data(self.data));
         let m = rules::message(self.message);
-        let (c, tag) = otr_e(self.form, &counted, self.t, &n, &a, &m);
+        let (c, tag) = otr_e(self.form, &counted, first_mask, self.t, &n, &a, &m);
         let sealed = hex::encode(&[c, tag].concat());
         format!(
             "{} {} {} {} {} {}\n",

@@ -5,23 +5,25 @@ use std::cell::RefCell;
 
 use crate::block::{double, pad, times_3_squared, xor, Block};
 use crate::call::Answer;
+use crate::data_pass::FirstMask;
 use crate::form::Form;
 use crate::generator::Generator;
+use crate::key::Key;
 use crate::otr::{format, otr_d, otr_e};
 use crate::request::{Kind, Request};
 use crate::rules;
 use crate::seam_requests::two_faults;
 use crate::standin::stand_in;
 
-const KEYS: [usize; 3] = [16, 24, 32];
-const DATA: [usize; 8] = [0, 1, 15, 16, 17, 32, 33, 4_096];
-const MESSAGES: [usize; 14] = [0, 1, 15, 16, 17, 31, 32, 33, 47, 48, 49, 64, 65, 16_384];
+pub const KEYS: [usize; 3] = [16, 24, 32];
+pub const DATA: [usize; 8] = [0, 1, 15, 16, 17, 32, 33, 4_096];
+pub const MESSAGES: [usize; 14] = [0, 1, 15, 16, 17, 31, 32, 33, 47, 48, 49, 64, 65, 16_384];
 
-fn sealing(form: usize, key: usize, data: usize, message: usize) -> Request {
+pub fn sealing(form: usize, key: usize, data: usize, message: usize) -> Request {
     Request {
         kind: Kind::Seal,
         form,
-        key: rules::key(key),
+        key: Key::Raw(rules::key(key)),
         nonce: rules::nonce(12),
         data: rules::data(data),
         body: rules::message(message),
@@ -30,13 +32,13 @@ fn sealing(form: usize, key: usize, data: usize, message: usize) -> Request {
     }
 }
 
-fn answer(request: &Request) -> Answer {
+pub fn answer(request: &Request) -> Answer {
     request.call().0
 }
 
 /// Wish 6, for parallel data: 2, plus the message length over 16 rounded up, plus, if there
 /// is associated data, its blocks and one.
-fn parallel_formula(data: usize, message: usize) -> usize {
+pub fn parallel_formula(data: usize, message: usize) -> usize {
     let data_runs = match data {
         0 => 0,
         _ => data.div_ceil(16) + 1,
@@ -99,7 +101,7 @@ fn check_seams(form: usize, formula: fn(usize, usize) -> usize) {
 }
 
 /// Damaged in the first byte, which is of the ciphertext if it has one, and in the tag's last.
-fn check_sealed_opened_damaged(sealing: &Request, runs: usize) {
+pub fn check_sealed_opened_damaged(sealing: &Request, runs: usize) {
     let sealed = answer(sealing);
     assert_eq!((sealed.number, sealed.runs), (0, runs));
     let opening = sealing.opening().unwrap();
@@ -154,15 +156,15 @@ fn nonce_and_tag_lengths_do_not_count() {
 /// An empty message without data hands E the nonce block and the tag's block, and not L.
 #[test]
 fn an_empty_message_hands_over_two_blocks() {
-    let n = rules::nonce(12);
+    let (n, ciphered) = (rules::nonce(12), FirstMask::Ciphered);
     for form in [Form::Parallel, Form::Serial] {
         let handed_over = RefCell::new(Vec::new());
         let e = |b: &Block| {
             handed_over.borrow_mut().push(*b);
             stand_in(b)
         };
-        let (c, tag) = otr_e(form, &e, 16, &n, &[], &[]);
-        assert!(otr_d(form, &e, &n, &[], &c, &tag).is_some());
+        let (c, tag) = otr_e(form, &e, ciphered, 16, &n, &[], &[]);
+        assert!(otr_d(form, &e, ciphered, &n, &[], &c, &tag).is_some());
         let nonce_block = format(16, &n);
         let u = match form {
             Form::Parallel => stand_in(&nonce_block),

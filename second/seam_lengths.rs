@@ -34,6 +34,9 @@ pub const MESSAGES: [usize; 11] = [
     MESSAGE_MAX,
 ];
 
+/// The associated data that 01 has run and compared.
+pub const DATA: [usize; 6] = [0, 1, 15, 16, 17, DATA_MAX];
+
 pub fn seam_lengths() -> Vec<Lengths> {
     let mut list = Vec::new();
     for key in [16, 24, 32] {

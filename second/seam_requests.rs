@@ -2,6 +2,7 @@
 
 use crate::call::{DATA_MAX, MESSAGE_MAX};
 use crate::generator::Generator;
+use crate::key::Key;
 use crate::request::{Kind, Request};
 use crate::seam_lengths::{seam_lengths, Lengths, USUAL};
 
@@ -11,14 +12,15 @@ const ROOM_MAX: usize = 20_480;
 /// Up to the largest number that a request may have.
 const NO_FORMS: [usize; 6] = [2, 3, 255, 256, 257, 65_535];
 /// In the order in which they are checked: 8 is the first (wish 1 of 02).
-const FAULTS: [u8; 7] = [8, 1, 2, 3, 4, 5, 6];
+pub const FAULTS: [u8; 7] = [8, 1, 2, 3, 4, 5, 6];
 
 pub fn seam_requests() -> Vec<Request> {
     let draw = &mut Generator::new(SEED);
     let mut requests = Vec::new();
     for form in [0, 1] {
         for lengths in seam_lengths() {
-            requests.extend(around(draw, form, lengths));
+            let sealing = sealing(draw, form, lengths);
+            requests.extend(around(draw, &sealing));
         }
         requests.extend(shortest_sealed(draw, form));
         requests.extend(two_faults(draw, form, Kind::Seal));
@@ -36,7 +38,7 @@ pub fn sealing(draw: &mut Generator, form: usize, lengths: Lengths) -> Request {
     Request {
         kind: Kind::Seal,
         form,
-        key: draw.bytes(lengths.key),
+        key: Key::Raw(draw.bytes(lengths.key)),
         nonce: draw.bytes(lengths.nonce),
         data: draw.bytes(lengths.data),
         body: draw.bytes(lengths.message),
@@ -45,26 +47,25 @@ pub fn sealing(draw: &mut Generator, form: usize, lengths: Lengths) -> Request {
     }
 }
 
-/// The sealing in three rooms, its openings in three rooms, those with room enough again
-/// with one bit changed, and one in the other form. Where the sealing is refused: an opening of other bytes
-/// with the same lengths.
-fn around(draw: &mut Generator, form: usize, lengths: Lengths) -> Vec<Request> {
-    let sealing = sealing(draw, form, lengths);
-    let mut requests = three_rooms(&sealing);
+/// The sealing, in form 0 or 1, in three rooms, its openings in three rooms, those with room
+/// enough again with one bit changed, and one in the other form. Where the sealing is refused:
+/// an opening of other bytes with the same lengths.
+pub fn around(draw: &mut Generator, sealing: &Request) -> Vec<Request> {
+    let mut requests = three_rooms(sealing);
     match sealing.opening() {
         Some(opening) => {
             requests.push(Request {
-                form: 1 - form,
+                form: 1 - sealing.form,
                 ..opening.clone()
             });
             for opening in three_rooms(&opening) {
                 requests.push(opening.clone());
-                if opening.room >= lengths.message {
+                if opening.room >= sealing.body.len() {
                     requests.extend(one_bit_changed(draw, &opening));
                 }
             }
         }
-        None => requests.push(other_bytes(draw, &sealing)),
+        None => requests.push(other_bytes(draw, sealing)),
     }
     requests
 }
@@ -106,7 +107,7 @@ fn one_bit_changed(draw: &mut Generator, opening: &Request) -> Vec<Request> {
             1 => tag,
             2 => &mut damaged.nonce,
             3 => &mut damaged.data,
-            _ => &mut damaged.key,
+            _ => damaged.key.bytes_mut(),
         };
         if !bytes.is_empty() {
             draw.change_bit(bytes);
@@ -136,10 +137,19 @@ fn shortest_sealed(draw: &mut Generator, form: usize) -> Vec<Request> {
 
 /// Every fault alone and every two together: the one checked first is the answer.
 pub fn two_faults(draw: &mut Generator, form: usize, kind: Kind) -> Vec<Request> {
+    two_faults_in(draw, kind, |draw| sealing(draw, form, USUAL))
+}
+
+/// The same in sealings that are drawn by `sealing`, or in their openings.
+pub fn two_faults_in(
+    draw: &mut Generator,
+    kind: Kind,
+    sealing: impl Fn(&mut Generator) -> Request,
+) -> Vec<Request> {
     let mut list = Vec::new();
     for (place, &first) in FAULTS.iter().enumerate() {
         for &second in &FAULTS[place..] {
-            let sealing = sealing(draw, form, USUAL);
+            let sealing = sealing(draw);
             let mut request = match (kind, sealing.opening()) {
                 (Kind::Open, Some(opening)) => opening,
                 _ => sealing,
@@ -155,12 +165,20 @@ pub fn two_faults(draw: &mut Generator, form: usize, kind: Kind) -> Vec<Request>
 fn add_fault(draw: &mut Generator, request: &mut Request, number: u8) {
     match number {
         8 => request.form = 2,
-        1 => request.key = draw.bytes(17),
+        1 => wrong_key(draw, &mut request.key),
         2 => request.nonce = draw.bytes(16),
         3 => request.t = 3,
         4 => request.data = draw.bytes(DATA_MAX + 1),
         5 => request.body = draw.bytes(MESSAGE_MAX + 17),
         _ => request.room = 0,
+    }
+}
+
+/// A raw key of 17 bytes; a record with 11 rounds.
+fn wrong_key(draw: &mut Generator, key: &mut Key) {
+    match key {
+        Key::Raw(bytes) => *bytes = draw.bytes(17),
+        Key::Prepared(record) => record.rounds = 11,
     }
 }
 

@@ -6,6 +6,7 @@ use crate::call::DATA_MAX;
 use crate::failure::Failure;
 use crate::files;
 use crate::hex;
+use crate::key::Key;
 use crate::request::{Kind, Request};
 use crate::rules;
 use crate::seam_lengths::{longest_nonces, Lengths, MESSAGES, USUAL};
@@ -64,7 +65,7 @@ fn sealing(form: usize, lengths: Lengths) -> Request {
     Request {
         kind: Kind::Seal,
         form,
-        key: rules::key(lengths.key),
+        key: Key::Raw(rules::key(lengths.key)),
         nonce: rules::nonce(lengths.nonce),
         data: rules::data(lengths.data),
         body: rules::message(lengths.message),

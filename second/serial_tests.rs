@@ -2,8 +2,9 @@
 
 use crate::block::{double, pad, times_3_squared, times_7, xor, Block, ZERO};
 use crate::call::{open, seal};
-use crate::data_pass::af_s;
+use crate::data_pass::{af_s, FirstMask};
 use crate::form::Form;
+use crate::key::Key;
 use crate::otr::{format, otr_e};
 use crate::rules;
 use crate::standin::stand_in;
@@ -41,7 +42,8 @@ fn ta_of_one_two_and_three_blocks() {
             "e2b62b6069725f44c5def3e8e1aab79c",
         ),
     ] {
-        assert_eq!(af_s(&stand_in, &data), stand_in(&block(last_input)));
+        let ta = af_s(&stand_in, stand_in(&ZERO), &data);
+        assert_eq!(ta, stand_in(&block(last_input)));
     }
 }
 
@@ -64,12 +66,15 @@ fn the_tag_does_not_take_ta() {
 
 /// One odd block, short and full: EF-S, lines 17 to 21.
 fn check_one_block(t: usize, a: &[u8], u: &Block) {
-    let n = rules::nonce(12);
-    let short = otr_e(Form::Serial, &stand_in, t, &n, a, &[0x5a]);
+    let sealed = |m: &[u8]| {
+        let (n, ciphered) = (rules::nonce(12), FirstMask::Ciphered);
+        otr_e(Form::Serial, &stand_in, ciphered, t, &n, a, m)
+    };
+    let short = sealed(&[0x5a]);
     let te = stand_in(&xor(&times_3_squared(u), &pad(&[0x5a])));
     assert_eq!(short, (vec![stand_in(u)[0] ^ 0x5a], te[..t].to_vec()));
     let m = [0x5a; 16];
-    let full = otr_e(Form::Serial, &stand_in, t, &n, a, &m);
+    let full = sealed(&m);
     let te = stand_in(&xor(&times_7(u), &m));
     assert_eq!(full, (xor(&stand_in(u), &m).to_vec(), te[..t].to_vec()));
 }
@@ -96,7 +101,8 @@ fn what_one_form_sealed_the_other_refuses() {
 }
 
 fn check_other_form(form: usize, data: &[u8], len: usize) {
-    let (key, nonce, message) = (rules::key(16), rules::nonce(12), rules::message(len));
+    let key = Key::Raw(rules::key(16));
+    let (nonce, message) = (rules::nonce(12), rules::message(len));
     let mut sealed = vec![0xa5; len + 16];
     let answer = seal(form, &key, &nonce, data, &message, 16, &mut sealed);
     assert_eq!((answer.number, answer.length), (0, len + 16));

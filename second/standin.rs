@@ -1,11 +1,14 @@
-//! Rows over a small stand-in cipher in E's place.
+//! The commands `standin` and `standin-lent`: rows over a small stand-in cipher in E's place.
 
 use crate::block::{Block, BLOCK_BYTES, ZERO};
+use crate::data_pass::FirstMask;
 use crate::form::Form;
 use crate::rows::Row;
+use crate::rules;
 
 const MESSAGES: [usize; 14] = [0, 1, 15, 16, 17, 31, 32, 33, 47, 48, 49, 64, 65, 100];
 const DATA: [usize; 6] = [0, 1, 15, 16, 17, 33];
+const DATA_LENT: [usize; 6] = [0, 1, 15, 16, 17, 40];
 const K_AND_T: [(usize, usize); 9] = [
     (1, 4),
     (7, 8),
@@ -30,13 +33,40 @@ pub fn stand_in(b: &Block) -> Block {
 }
 
 pub fn command() -> String {
-    rows().iter().map(line).collect()
+    lines(&rows(), FirstMask::Ciphered)
 }
 
-/// `FORM MESSAGELEN DATALEN K T RUNS HEX` and the end of the line.
-fn line(row: &Row) -> String {
-    let rest = row.lengths_and_sealed(&stand_in);
-    format!("{} {}", row.form_number(), rest)
+/// With a first mask that is lent (wish 9 of 02).
+pub fn command_lent() -> String {
+    lines(&rows_lent(), FirstMask::Lent(rules::lent_mask()))
+}
+
+/// `FORM MESSAGELEN DATALEN K T RUNS HEX` and the end of the line, for each row.
+fn lines(rows: &[Row], first_mask: FirstMask) -> String {
+    rows.iter()
+        .map(|row| {
+            let rest = row.lengths_and_sealed(&stand_in, first_mask);
+            format!("{} {}", row.form_number(), rest)
+        })
+        .collect()
+}
+
+/// Without data, and with all that the first mask goes into.
+fn rows_lent() -> Vec<Row> {
+    let mut list = Vec::new();
+    for form in [Form::Parallel, Form::Serial] {
+        list.extend(by_data(form, &DATA_LENT));
+        for (k, t) in [(12, 16), (15, 15)] {
+            list.push(Row {
+                form,
+                message: 33,
+                data: 33,
+                k,
+                t,
+            });
+        }
+    }
+    list
 }
 
 /// With serial ADP the message pass depends on the data through U: its seams with data too.
@@ -44,11 +74,11 @@ fn rows() -> Vec<Row> {
     let (parallel, serial) = (Form::Parallel, Form::Serial);
     [
         by_message(parallel, 0),
-        by_data(parallel),
+        by_data(parallel, &DATA),
         by_k_and_t(parallel),
         by_message(serial, 0),
         by_message(serial, 5),
-        by_data(serial),
+        by_data(serial, &DATA),
         by_k_and_t(serial),
     ]
     .into_iter()
@@ -67,15 +97,15 @@ fn by_message(form: Form, data: usize) -> Vec<Row> {
     MESSAGES.map(row).into()
 }
 
-fn by_data(form: Form) -> Vec<Row> {
-    let row = |data| Row {
+fn by_data(form: Form, lengths: &[usize]) -> Vec<Row> {
+    let row = |&data| Row {
         form,
         message: 20,
         data,
         k: 12,
         t: 16,
     };
-    DATA.map(row).into()
+    lengths.iter().map(row).collect()
 }
 
 fn by_k_and_t(form: Form) -> Vec<Row> {

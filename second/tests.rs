@@ -4,14 +4,16 @@ use crate::aes::{substitute, Aes};
 use crate::bits::n2s;
 use crate::block::{double, pad, times_3_squared, times_7, Block, BLOCK_BYTES, ZERO};
 use crate::call::{open, seal};
+use crate::data_pass::FirstMask;
 use crate::firmware;
 use crate::form::Form;
 use crate::hex;
+use crate::key::Key;
 use crate::otr::{format, otr_d, otr_e};
 use crate::rules;
 use crate::standin::stand_in;
 
-fn bytes(text: &str) -> Vec<u8> {
+pub fn bytes(text: &str) -> Vec<u8> {
     hex::decode(text).unwrap()
 }
 
@@ -132,7 +134,7 @@ fn nonces_of_0_and_16_bytes_are_refused_and_the_output_kept() {
 
 /// Sealing and opening 40 bytes with room enough.
 pub fn check_refused_and_kept(form: usize, key_bytes: usize, k: usize, t: usize, number: u8) {
-    let (key, nonce) = (rules::key(key_bytes), rules::nonce(k));
+    let (key, nonce) = (Key::Raw(rules::key(key_bytes)), rules::nonce(k));
     let (data, body) = (rules::data(5), rules::message(40));
     for call in [seal, open] {
         let mut output = vec![0xa5; 60];
@@ -154,8 +156,8 @@ fn a_nonce_of_15_bytes_seals_and_opens_at_every_t() {
 }
 
 fn check_round_trip(form: usize, t: usize, len: usize) {
-    let (key, nonce, data) = (rules::key(32), rules::nonce(15), rules::data(17));
-    let message = rules::message(len);
+    let key = Key::Raw(rules::key(32));
+    let (nonce, data, message) = (rules::nonce(15), rules::data(17), rules::message(len));
     let mut sealed = vec![0xa5; len + t];
     let answer = seal(form, &key, &nonce, &data, &message, t, &mut sealed);
     assert_eq!((answer.number, answer.length), (0, len + t));
@@ -167,14 +169,14 @@ fn check_round_trip(form: usize, t: usize, len: usize) {
 
 #[test]
 fn opening_undoes_sealing() {
-    let n = rules::nonce(12);
+    let (n, ciphered) = (rules::nonce(12), FirstMask::Ciphered);
     for form in [Form::Parallel, Form::Serial] {
         for a in [rules::data(0), rules::data(17)] {
             for len in 0..200 {
                 let m = rules::message(len);
-                let (c, tag) = otr_e(form, &stand_in, 16, &n, &a, &m);
+                let (c, tag) = otr_e(form, &stand_in, ciphered, 16, &n, &a, &m);
                 assert_eq!((c.len(), tag.len()), (len, BLOCK_BYTES));
-                assert_eq!(otr_d(form, &stand_in, &n, &a, &c, &tag), Some(m));
+                assert_eq!(otr_d(form, &stand_in, ciphered, &n, &a, &c, &tag), Some(m));
             }
         }
     }
@@ -192,7 +194,8 @@ fn every_changed_bit_is_refused_and_the_output_zeroed() {
 }
 
 fn check_changed_bits(form: usize, nonce: &[u8], len: usize) {
-    let (key, data, message) = (rules::key(24), rules::data(5), rules::message(len));
+    let key = Key::Raw(rules::key(24));
+    let (data, message) = (rules::data(5), rules::message(len));
     let mut sealed = vec![0xa5; len + 12];
     let answer = seal(form, &key, nonce, &data, &message, 12, &mut sealed);
     assert_eq!((answer.number, answer.length), (0, len + 12));
@@ -209,10 +212,11 @@ fn check_changed_bits(form: usize, nonce: &[u8], len: usize) {
 /// For one short odd block TE = E(3^2 L xor padded M), L = E(Format): 01 by hand.
 #[test]
 fn empty_message_is_one_short_block() {
-    let u = stand_in(&format(16, &rules::nonce(12)));
+    let (n, ciphered) = (rules::nonce(12), FirstMask::Ciphered);
+    let u = stand_in(&format(16, &n));
     let mut input = times_3_squared(&u);
     input[0] ^= 0x80;
-    let (c, tag) = otr_e(Form::Parallel, &stand_in, 16, &rules::nonce(12), &[], &[]);
+    let (c, tag) = otr_e(Form::Parallel, &stand_in, ciphered, 16, &n, &[], &[]);
     assert!(c.is_empty());
     assert_eq!(tag, stand_in(&input));
 }

@@ -2,10 +2,15 @@
 //! must print.
 
 use crate::call::DATA_MAX;
+use crate::exchange::Exchange;
 use crate::failure::Failure;
 use crate::files;
+use crate::hex;
+use crate::key::Key;
 use crate::request::{Kind, Request};
 use crate::rules;
+
+const KEY_BYTES: usize = 16;
 
 pub fn command(file_requests: &str, file_answers: &str) -> Result<String, Failure> {
     let mut tour = Tour::default();
@@ -24,6 +29,7 @@ pub fn command(file_requests: &str, file_answers: &str) -> Result<String, Failur
         &longest,
     );
     serial(&mut tour, &sealing);
+    prepared(&mut tour, &sealing);
     refusals(&mut tour, &sealing, &opening);
     bad_lines(&mut tour);
     files::write(file_requests, &tour.requests)?;
@@ -35,7 +41,7 @@ fn sealing() -> Request {
     Request {
         kind: Kind::Seal,
         form: 0,
-        key: rules::key(16),
+        key: Key::Raw(rules::key(KEY_BYTES)),
         nonce: rules::nonce(12),
         data: b"mount 2".to_vec(),
         body: b"three steps west".to_vec(),
@@ -86,6 +92,32 @@ fn serial(tour: &mut Tour, sealing: &Request) {
     );
 }
 
+/// Wish 9 of 02.
+fn prepared(tour: &mut Tour, sealing: &Request) {
+    tour.prepare(
+        "0 1: a key prepared, which is one run: 10 rounds, their round keys with zeros behind, and the cipher of the zero block.",
+        &rules::key(KEY_BYTES),
+    );
+    let sealing = sealing.under_record(|_| ());
+    tour.call(
+        "0: sealed under that record: the bytes that its key seals, and one run less.",
+        &sealing,
+    );
+    tour.call("0: opened.", &opening(&sealing));
+    tour.call(
+        "0: a record whose first mask is not the cipher of the zero block: another tag.",
+        &sealing.under_record(|record| record.zero = rules::lent_mask()),
+    );
+    tour.call(
+        "1: a record with 11 rounds.",
+        &sealing.under_record(|record| record.rounds = 11),
+    );
+    tour.prepare(
+        "1 0: a key of 17 bytes is not prepared, and its record is of zeros.",
+        &rules::key(17),
+    );
+}
+
 fn refusals(tour: &mut Tour, sealing: &Request, opening: &Request) {
     tour.changed(
         "8: a form that is neither parallel (0) nor serial (1).",
@@ -97,11 +129,11 @@ fn refusals(tour: &mut Tour, sealing: &Request, opening: &Request) {
         sealing,
         |request| {
             request.form = 2;
-            request.key = rules::key(17);
+            request.key = Key::Raw(rules::key(17));
         },
     );
     tour.changed("1: a key of 17 bytes.", sealing, |request| {
-        request.key = rules::key(17);
+        request.key = Key::Raw(rules::key(17));
     });
     tour.changed("2: a nonce of 16 bytes.", sealing, |request| {
         request.nonce = rules::nonce(16);
@@ -131,6 +163,14 @@ fn bad_lines(tour: &mut Tour) {
     tour.bad("Half a byte.", "seal 0 0 01 02 03 16 4");
     tour.bad("More room than there is.", "seal 0 00 01 02 03 16 20481");
     tour.bad("A form of six digits.", "seal 000000 00 01 02 03 16 4");
+    tour.bad("Round keys of 239 bytes.", &under_zeros(239, 16));
+    tour.bad("A first mask of 15 bytes.", &under_zeros(240, 15));
+}
+
+/// A sealing under a record of zeros, with so many bytes of round keys and of first mask.
+fn under_zeros(round_keys: usize, zero: usize) -> String {
+    let [words, zero] = [round_keys, zero].map(|len| hex::encode(&vec![0; len]));
+    format!("seal-with 0 10 {words} {zero} 01 02 03 16 17")
 }
 
 #[derive(Default)]
@@ -141,8 +181,16 @@ struct Tour {
 
 impl Tour {
     fn call(&mut self, words: &str, request: &Request) {
-        self.requests += &format!("# {words}\n{}", request.request_line());
-        self.answers += &request.answer_line();
+        self.exchange(words, &Exchange::of_call(request));
+    }
+
+    fn prepare(&mut self, words: &str, key: &[u8]) {
+        self.exchange(words, &Exchange::of_preparing(key));
+    }
+
+    fn exchange(&mut self, words: &str, exchange: &Exchange) {
+        self.requests += &format!("# {words}\n{}", exchange.request);
+        self.answers += &exchange.answer;
     }
 
     /// The call after a change to the request.

@@ -42,7 +42,8 @@ pub struct RoundKeys {
     pub words: [u8; 240],
 }
 
-fn blank() -> [u8; 240]
+// No round keys at all.
+pub fn blank() -> [u8; 240]
     ensures { λ r. ⌜ r ≡ zeros 240 ⌝ }
 {
     [0; 240]

@@ -7,6 +7,7 @@ mod state;
 pub use key::Ciphered;
 pub use key::KeySize;
 pub use key::RoundKeys;
+pub use key::blank;
 pub use key::encrypt_under;
 pub use key::expand;
 pub use key::key_size;

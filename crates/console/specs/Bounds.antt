@@ -1,4 +1,5 @@
 -- What the contracts cite: the bounds that make each index safe.
+use mathlib.Core.Path.{_≡_}
 use Prim.Native.Nat.{ℕ, _+_, _≤_, _<_}
 use Rattle.console.specs.declared.fields.Byte.{Byte}
 use Rattle.console.specs.declared.fields.Byte.the-variants.{Value as ByteValue, Bad as NoByte}
@@ -7,8 +8,11 @@ use Rattle.console.specs.declared.fields.Field.the-variants.{Bytes, Numb
 use Rattle.console.specs.declared.fields.Parsed.{Parsed}
 use Rattle.console.specs.declared.fields.Parsed.the-variants.{Value, Bad}
 use Rattle.console.specs.declared.fields.Part.{Part}
+use Rattle.console.specs.declared.request.Key.{Key}
+use Rattle.console.specs.declared.request.Key.the-variants.{Raw, Prepared}
 use Rattle.console.specs.declared.request.Line.{Line}
-use Rattle.console.specs.declared.request.Line.the-variants.{Request as Asked, PassedOver, Bad as BadLine}
+use Rattle.console.specs.declared.request.Line.the-variants.{Request as Asked, Prepare, PassedOver, Bad as BadLine}
+use Rattle.console.specs.declared.request.Record.{Record}
 use Rattle.console.specs.declared.request.Request.{Request}
 use Rattle.console.specs.declared.request.Strings.{Strings}
 
@@ -32,9 +36,21 @@ Read n (Bytes p next) = Inside n p
 Read n (Number m next) = m ≤ 65535
 Read n NoField = Unit
 
--- the four strings lie in a line of n bytes
+-- a prepared key lies in a line of n bytes, with 240 bytes of round keys and 16 of E(zero)
+pub record Recorded (n : ℕ) (r : Record) : Type 0 where
+  pub words : Inside n (r .words)
+  pub zero : Inside n (r .zero)
+  pub words-count : r .words .count ≡ 240
+  pub zero-count : r .zero .count ≡ 16
+
+-- a key, raw or prepared, lies in a line of n bytes
+abbrev pub Held : ℕ → Key → Type 0
+Held n (Raw p) = Inside n p
+Held n (Prepared r) = Recorded n r
+
+-- the key and the other strings lie in a line of n bytes
 pub record Within (n : ℕ) (s : Strings) : Type 0 where
-  pub key : Inside n (s .key)
+  pub key : Held n (s .key)
   pub nonce : Inside n (s .nonce)
   pub «data» : Inside n (s .«data»)
   pub message : Inside n (s .message)
@@ -46,6 +62,7 @@ Sound n r = Within n (r .strings) × (r .room ≤ 20480)
 -- a line of n bytes is a sound request, or none
 abbrev pub Good : ℕ → Line → Type 0
 Good n (Asked r) = Sound n r
+Good n (Prepare p) = Inside n p
 Good n PassedOver = Unit
 Good n BadLine = Unit
 

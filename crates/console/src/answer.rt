@@ -12,8 +12,19 @@ pub fn write_answer(text: &mut [u8], answer: link::Answer, output: &[u8]) -> boo
     let at = put_field(text, at, link::length(answer) as u64);
     let at = put_field(text, at, link::runs(answer) as u64);
     let at = put_hex(text, at, output);
-    let end = put(text, at, b"\n");
-    io::write_all(STDOUT_FILENO, &text[0..end])
+    write_line(text, at)
+}
+
+// Writes `NUMBER RUNS ROUNDS WORDS ZERO`, and says whether it could be written.
+pub fn write_preparation(text: &mut [u8], made: link::Preparation) -> bool
+    requires { ⌜ 2 * 256 + 67 ≤ length (now text) ⌝ }
+{
+    let answer = made.answer;
+    let key = made.key;
+    let at = put_field(text, 0, link::number(answer) as u64);
+    let at = put_field(text, at, link::runs(answer) as u64);
+    let at = put_key(text, at, key);
+    write_line(text, at)
 }
 
 // Writes `bad line N`, and says whether it could be written.
@@ -22,12 +33,19 @@ pub fn write_bad_line(text: &mut [u8], number: u64) -> bool
 {
     let at = put(text, 0, b"bad line ");
     let at = put_number(text, at, number);
+    write_line(text, at)
+}
+
+// Ends the line at `at` and writes it, and says whether it could be written.
+fn write_line(text: &mut [u8], at: usize) -> bool
+    requires { ⌜ at < length (now text) ⌝ }
+{
     let end = put(text, at, b"\n");
     io::write_all(STDOUT_FILENO, &text[0..end])
 }
 
 // Puts bytes into the text from `at` on, and answers where they end.
-fn put(text: &mut [u8], at: usize, bytes: &[u8]) -> usize
+pub fn put(text: &mut [u8], at: usize, bytes: &[u8]) -> usize
     requires { ⌜ at + length (now bytes) ≤ length (now text) ⌝ }
     ensures { λ r. ⌜ r ≡ at + length (now (bytes .entry)) ⌝ }
 {
@@ -72,6 +90,19 @@ fn put_hex(text: &mut [u8], at: usize, bytes: &[u8]) -> usize
         i += 1;
     }
     at + 2 * i
+}
+
+// The same of a prepared key, as `ROUNDS WORDS ZERO`.
+fn put_key(text: &mut [u8], at: usize, key: link::Prepared) -> usize
+    requires { ⌜ at + 2 * 256 + 24 ≤ length (now text) ⌝ }
+    ensures { λ r. ⌜ r ≤ at + 2 * 256 + 24 ⌝ }
+{
+    let words = key.words;
+    let zero = key.zero;
+    let at = put_field(text, at, key.rounds as u64);
+    let at = put_hex(text, at, &words);
+    let at = put(text, at, b" ");
+    put_hex(text, at, &zero)
 }
 
 fn put_byte(text: &mut [u8], at: usize, byte: u8)

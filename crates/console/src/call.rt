@@ -1,12 +1,21 @@
 // Carrying a request out.
+ghost use mathlib.Core.Path.{_≡_};
 ghost use lib.ListN.{length};
-ghost use Rattle.console.specs.Bounds.{Inside, Sound, Enough};
+ghost use Rattle.console.specs.Bounds.{Inside, Recorded, Sound, Enough};
 use crate::answer;
 use crate::fields::Part;
+use crate::request::Key;
+use crate::request::Record;
 use crate::request::Request;
 
 // What every byte of an output buffer is before the call, so that the answer shows which bytes the call left alone.
 const UNTOUCHED: u8 = 0xa5;
+
+pub fn prepare(line: &[u8], key: Part) -> link::Preparation
+    requires { ⌜ Inside (length (now line)) key ⌝ }
+{
+    link::prepare(bytes_of(line, key))
+}
 
 // Calls the library and writes its answer, and says whether that could be written.
 pub fn carry_out(line: &[u8], request: Request, output: &mut [u8], text: &mut [u8]) -> bool
@@ -32,21 +41,50 @@ fn call(line: &[u8], request: Request, buffer: &mut [u8]) -> link::Answer
     requires { ⌜ Sound (length (now line)) request ⌝ }
 {
     let strings = request.strings;
-    let key = bytes_of(line, strings.key);
     let nonce = bytes_of(line, strings.nonce);
     let data = bytes_of(line, strings.data);
     let message = bytes_of(line, strings.message);
     let form = request.form;
     let tag = request.tag;
-    if request.opens {
-        link::open(form, key, nonce, data, message, tag, buffer)
-    } else {
-        link::seal(form, key, nonce, data, message, tag, buffer)
+    let key = strings.key;
+    match key {
+        Key::Raw(part) => {
+            let raw = bytes_of(line, part);
+            if request.opens {
+                link::open(form, raw, nonce, data, message, tag, buffer)
+            } else {
+                link::seal(form, raw, nonce, data, message, tag, buffer)
+            }
+        }
+        Key::Prepared(place) => {
+            let made = prepared(line, place);
+            if request.opens {
+                link::open_with(form, made, nonce, data, message, tag, buffer)
+            } else {
+                link::seal_with(form, made, nonce, data, message, tag, buffer)
+            }
+        }
+    }
+}
+
+// The prepared key itself, out of its line.
+fn prepared(line: &[u8], place: Record) -> link::Prepared
+    requires { ⌜ Recorded (length (now line)) place ⌝ }
+{
+    let mut words = [0u8; 240];
+    answer::put(&mut words, 0, bytes_of(line, place.words));
+    let mut zero = [0u8; 16];
+    answer::put(&mut zero, 0, bytes_of(line, place.zero));
+    link::Prepared {
+        rounds: place.rounds,
+        words,
+        zero,
     }
 }
 
 fn bytes_of(line: &[u8], part: Part) -> &[u8]
     requires { ⌜ Inside (length (now line)) part ⌝ }
+    ensures { λ r. ⌜ length (now r) ≡ part .count ⌝ }
 {
     let from = part.from;
     let to = from + part.count;

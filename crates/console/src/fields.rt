@@ -1,5 +1,5 @@
 // The fields of a request's line.
-ghost use Prim.Native.Nat.{_≤_};
+ghost use Prim.Native.Nat.{_+_, _≤_};
 ghost use lib.ListN.{length};
 ghost use Rattle.console.specs.Bounds.{Below, AtMost, Read};
 
@@ -56,8 +56,8 @@ pub fn number(line: &[u8], from: usize) -> Field
 
 // Where the field that begins at `from` ends: at the next space or the line's end. One that would begin behind the line's end is
 // missing, and ends where it begins.
-fn end_of(line: &[u8], from: usize) -> usize
-    ensures { λ r. ⌜ from ≤ r ⌝ }
+pub fn end_of(line: &[u8], from: usize) -> usize
+    ensures { λ r. ⌜ (from ≤ r) × (r ≤ from + length (now (line .entry))) ⌝ }
 {
     let mut at = from;
     while at < line.len() {

@@ -2,11 +2,17 @@
 //
 //     seal FORM KEY NONCE DATA MESSAGE TAG ROOM
 //     open FORM KEY NONCE DATA SEALED TAG ROOM
+//     prepare KEY
+//     seal-with FORM ROUNDS WORDS ZERO NONCE DATA MESSAGE TAG ROOM
+//     open-with FORM ROUNDS WORDS ZERO NONCE DATA SEALED TAG ROOM
 //
-// One space stands between two fields. The four strings are hexadecimal, two digits of either case a byte, or `-` for no bytes.
-// FORM, TAG and ROOM are decimal, up to 65535, 65535 and 20480; 0 is the parallel form, 1 the serial one. The output buffer has ROOM
-// bytes, all a5 before the call. The answer is the line `NUMBER LENGTH RUNS OUTPUT`: RUNS says how many times the cipher
-// ran, and OUTPUT is the whole buffer after the call, in hexadecimal.
+// One space stands between two fields. FORM, ROUNDS, TAG and ROOM are decimal, up to 65535, and ROOM up to 20480; form 0 is the
+// parallel one, 1 the serial one. The other fields are hexadecimal, two digits of either case a byte, or `-` for no bytes. ROUNDS, WORDS
+// and ZERO are a prepared key: its round count, the 240 bytes of its round keys, and the 16 of E(zero).
+//
+// A sealing or an opening has an output buffer of ROOM bytes, all a5 before the call, and its answer is the line
+// `NUMBER LENGTH RUNS OUTPUT`: RUNS says how many times the cipher ran, and OUTPUT is the whole buffer after the call, in hexadecimal.
+// The answer to `prepare` is `NUMBER RUNS ROUNDS WORDS ZERO`.
 //
 // A line has up to 65000 bytes, and ends at LF, CR LF or the input's end. One that is empty or begins with `#` is passed over. Any
 // other line that is no request, and any longer line, is answered by `bad line N`, where N counts all lines from 1.
@@ -157,6 +163,7 @@ fn reply(line: &mut [u8], number: u64, output: &mut [u8], text: &mut [u8]) -> bo
     match request::parse(line) {
         Line::PassedOver => true,
         Line::Bad => answer::write_bad_line(text, number),
+        Line::Prepare(key) => answer::write_preparation(text, call::prepare(line, key)),
         Line::Request(request) => call::carry_out(line, request, output, text),
     }
 }

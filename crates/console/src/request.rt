@@ -1,6 +1,6 @@
 // What a line asks for.
 ghost use lib.ListN.{length};
-ghost use Rattle.console.specs.Bounds.{Within, Good};
+ghost use Rattle.console.specs.Bounds.{Held, Within, Good};
 use crate::fields;
 use crate::fields::Field;
 use crate::fields::Part;
@@ -11,18 +11,34 @@ const MOST_LINE: usize = 65000;
 // The most bytes of an output buffer.
 const MOST_ROOM: usize = 20480;
 
-// Where the first field behind the word begins: the word has four letters, and a space behind it.
-const FIRST_FIELD: usize = 5;
+// How many bytes the round keys of a prepared key have.
+const WORDS: usize = 240;
 
-// Where the four strings lie in their line, as bytes.
+// How many its E(zero) has.
+const ZERO: usize = 16;
+
+// A prepared key: the round count, and where the round keys and E(zero) lie in their line, as bytes.
+pub struct Record {
+    pub rounds: usize,
+    pub words: Part,
+    pub zero: Part,
+}
+
+pub enum Key {
+    Raw(Part),
+    Prepared(Record),
+}
+
+// The key, and where the other strings lie in their line, as bytes.
 pub struct Strings {
-    pub key: Part,
+    pub key: Key,
     pub nonce: Part,
     pub data: Part,
     // MESSAGE, or SEALED where the request opens.
     pub message: Part,
 }
 
+// A request to seal or to open.
 pub struct Request {
     pub opens: bool,
     pub form: usize,
@@ -33,6 +49,8 @@ pub struct Request {
 
 pub enum Line {
     Request(Request),
+    // A request to prepare a key.
+    Prepare(Part),
     PassedOver,
     Bad,
 }
@@ -47,11 +65,22 @@ pub fn parse(line: &mut [u8]) -> Line
     if line.len() == 0 || line[0] == b'#' {
         return Line::PassedOver;
     }
+    // The first field begins behind the space that ends the word.
+    let next = fields::end_of(line, 0) + 1;
     if begins(line, b"seal ") {
-        return parse_fields(line, false);
+        return parse_raw(line, next, false);
     }
     if begins(line, b"open ") {
-        return parse_fields(line, true);
+        return parse_raw(line, next, true);
+    }
+    if begins(line, b"seal-with ") {
+        return parse_prepared(line, next, false);
+    }
+    if begins(line, b"open-with ") {
+        return parse_prepared(line, next, true);
+    }
+    if begins(line, b"prepare ") {
+        return parse_prepare(line, next);
     }
     Line::Bad
 }
@@ -70,23 +99,65 @@ fn begins(line: &[u8], word: &[u8]) -> bool {
     true
 }
 
-fn parse_fields(line: &mut [u8], opens: bool) -> Line
-    ensures { λ r. ⌜ Good (length (now (line .exit))) r ⌝ }
-{
-    let Field::Number(form, next) = fields::number(line, FIRST_FIELD) else {
-        return Line::Bad;
-    };
-    parse_strings(line, next, opens, form)
-}
-
-// The fields from `from` to the line's end: the four strings, and what follows them.
-fn parse_strings(line: &mut [u8], from: usize, opens: bool, form: usize) -> Line
+// The one field of a request to prepare a key.
+fn parse_prepare(line: &mut [u8], from: usize) -> Line
     ensures { λ r. ⌜ Good (length (now (line .exit))) r ⌝ }
 {
     let Field::Bytes(key, next) = fields::bytes(line, from) else {
         return Line::Bad;
     };
-    let Field::Bytes(nonce, next) = fields::bytes(line, next) else {
+    if goes_on(line, next) {
+        return Line::Bad;
+    }
+    Line::Prepare(key)
+}
+
+// The fields of a request under a raw key.
+fn parse_raw(line: &mut [u8], from: usize, opens: bool) -> Line
+    ensures { λ r. ⌜ Good (length (now (line .exit))) r ⌝ }
+{
+    let Field::Number(form, next) = fields::number(line, from) else {
+        return Line::Bad;
+    };
+    let Field::Bytes(key, next) = fields::bytes(line, next) else {
+        return Line::Bad;
+    };
+    parse_strings(line, next, opens, form, Key::Raw(key))
+}
+
+// The fields of a request under a prepared key.
+fn parse_prepared(line: &mut [u8], from: usize, opens: bool) -> Line
+    ensures { λ r. ⌜ Good (length (now (line .exit))) r ⌝ }
+{
+    let Field::Number(form, next) = fields::number(line, from) else {
+        return Line::Bad;
+    };
+    let Field::Number(rounds, next) = fields::number(line, next) else {
+        return Line::Bad;
+    };
+    let Field::Bytes(words, next) = fields::bytes(line, next) else {
+        return Line::Bad;
+    };
+    let Field::Bytes(zero, next) = fields::bytes(line, next) else {
+        return Line::Bad;
+    };
+    if words.count != WORDS || zero.count != ZERO {
+        return Line::Bad;
+    }
+    let place = Record {
+        rounds,
+        words,
+        zero,
+    };
+    parse_strings(line, next, opens, form, Key::Prepared(place))
+}
+
+// The fields behind the key, from `from` to the line's end: the other strings, and what follows them.
+fn parse_strings(line: &mut [u8], from: usize, opens: bool, form: usize, key: Key) -> Line
+    requires { ⌜ Held (length (now line)) key ⌝ }
+    ensures { λ r. ⌜ Good (length (now (line .exit))) r ⌝ }
+{
+    let Field::Bytes(nonce, next) = fields::bytes(line, from) else {
         return Line::Bad;
     };
     let Field::Bytes(data, next) = fields::bytes(line, next) else {
@@ -115,8 +186,7 @@ fn parse_numbers(line: &[u8], from: usize, opens: bool, form: usize, strings: St
     let Field::Number(room, next) = fields::number(line, next) else {
         return Line::Bad;
     };
-    // Nothing may stand behind the last field, not even a space.
-    if next <= line.len() || MOST_ROOM < room {
+    if goes_on(line, next) || MOST_ROOM < room {
         return Line::Bad;
     }
     Line::Request(Request {
@@ -126,4 +196,9 @@ fn parse_numbers(line: &[u8], from: usize, opens: bool, form: usize, strings: St
         tag,
         room,
     })
+}
+
+// Whether the line goes on behind its last field, where the next one would begin at `next`. Nothing may stand there, not even a space.
+fn goes_on(line: &[u8], next: usize) -> bool {
+    next <= line.len()
 }

@@ -1,25 +1,30 @@
 -- Document 02, wish 6: each answer also reports how many times the cipher ran. Sealing with answer 0, and opening with 0 or 7, report how
 -- many blocks the definitions list as handed to the cipher; every other refusal reports 0. Assumes nothing.
-use mathlib.Core.Path.{_≡_, refl, sym, ap, _∙_}
+use mathlib.Core.Path.{_≡_, refl, sym, ap, ap₂, _∙_}
+use mathlib.Core.Bool.{Bool}
 use mathlib.Core.Logic.{_⊎_, inl, inr}
-use mathlib.Core.List.{List}
+use mathlib.Core.List.{List, _++_}
 use Prim.Native.Nat.{ℕ, zero, suc, _+_, _-_, _/_, _≤_, min}
 use native.Mathlib.Omega.{arith}
-use lib.ListN.{length}
+use lib.ListN.{length, length-append}
+use Rattle.lists.specs.Zeros.{zeros}
 use Rattle.aes.specs.Expansion.{aes}
 use Rattle.mode.specs.Form.{Form, parallel, serial, formOf}
-use Rattle.mode.specs.Sealing.{otrInputs}
+use Rattle.mode.specs.Data.{qInputs, withData}
+use Rattle.mode.specs.Sealing.{fromInputs, otrInputs}
 use Rattle.mode.specs.Opening.{accepted, refused}
-use Rattle.mode.specs.Undoing.{foundInputs}
-use Rattle.mode.proofs.Runs.{length-otrInputs, length-foundInputs}
+use Rattle.mode.specs.Undoing.{foundFromInputs, foundInputs}
+use Rattle.mode.proofs.Runs.{length-qInputs, length-fromInputs, length-foundFromInputs}
 use Rattle.link.specs.Answers.{numberOf, runsOf}
-use Rattle.link.specs.Checks.{Check, pass, stop, sealCheck, openCheck, asAnswer}
-use Rattle.link.specs.Promises.{sealing, SealsBy, Seals, OpensBy, Opens}
+use Rattle.link.specs.Checks.{Check, pass, stop, callCheck, sealNext, openNext, asAnswer}
+use Rattle.link.specs.Prepared.{cipherOf}
+use Rattle.link.specs.Promises.{sealing, sealRuns, openRuns, SealsBy, Seals, OpensBy, Opens, sealingWith, sealRunsWith, openRunsWith, SealsWith, OpensWith}
 use Rattle.link.specs.declared.answer.Answer.{Answer}
+use Rattle.link.specs.declared.prepared.Prepared.{Prepared}
 use Rattle.link.proofs.Answers.{no-runs}
 use Rattle.link.proofs.Verdicts.{Verdict, Called, seal-verdict, open-verdict}
-use Rattle.demands.specs.Calls.{formula}
-use Rattle.demands.proofs.Demand1.{stop-is, sealing-not-7, opening-not-7}
+use Rattle.demands.specs.Calls.{keyKnown, roundsKnown, formula, formulaWith}
+use Rattle.demands.proofs.Demand1.{stop-is, answers-not-7, open-not-7}
 
 -- what an answer r reports of a call that hands the cipher k blocks if it comes to that
 pub record Counts (k : ℕ) (r : Answer) : Type 0 where
@@ -38,40 +43,60 @@ by-open (pass n) k seal s out r after never not7 (refused, q, h, e) z = ap runsO
 by-open (stop x) k seal s out r after never not7 p (inl z) = absurd (never x refl (sym (ap numberOf (p .0)) ∙ z))
 by-open (stop x) k seal s out r after never not7 p (inr z) = absurd (not7 (sym (ap numberOf (p .0)) ∙ z))
 
-module _ (form : ℕ) (key nonce ad : List ℕ) (t : ℕ) (out : List ℕ) (r : Answer) (after : List ℕ) where
-  pub sealing-counts : (m : List ℕ) → Seals form key nonce ad m t out r after → Counts (length (otrInputs (aes key) (formOf form) nonce ad t m)) r
-  unfolding Seals
-  sealing-counts m p = record { ran = ran; refused = no-runs r }
+-- whatever seals, once the checks have passed
+module _ (form : ℕ) (known : Bool) (nonce ad : List ℕ) (t : ℕ) (out : List ℕ) (r : Answer) (after : List ℕ) (k : ℕ) where
+  seal-counts : (m bytes : List ℕ) → SealsBy (callCheck form known (length nonce) t (length ad) (sealNext t (length m) (length out))) k bytes out r after → Counts k r
+  seal-counts m bytes p = record { ran = ran; refused = no-runs r }
     where
       Fits : Type 0
-      Fits = Called form (length key) (length nonce) t (length ad) × (length m ≤ 16384) × (length m + t ≤ length out)
+      Fits = Called form known (length nonce) t (length ad) × (length m ≤ 16384) × (length m + t ≤ length out)
 
-      ran : (numberOf r ≡ 0) ⊎ (numberOf r ≡ 7) → runsOf r ≡ length (otrInputs (aes key) (formOf form) nonce ad t m)
+      ran : (numberOf r ≡ 0) ⊎ (numberOf r ≡ 7) → runsOf r ≡ k
       ran (inl z) =
-          let checks = sealCheck form (length key) (length nonce) t (length ad) (length m) (length out) in
-          let verdict = seal-verdict form (length key) (length nonce) t (length ad) (length m) (length out) in
-          by-seal checks _ (sealing form key nonce ad t m) out r after (stop-is Fits (length m + t) checks verdict) p z
-      ran (inr h) = absurd (sealing-not-7 form key nonce ad m t out r after p h)
+          let checks = callCheck form known (length nonce) t (length ad) (sealNext t (length m) (length out)) in
+          let verdict = seal-verdict form known (length nonce) t (length ad) (length m) (length out) in
+          by-seal checks k bytes out r after (stop-is Fits (length m + t) checks verdict) p z
+      ran (inr h) = absurd (answers-not-7 form known nonce ad m t out k bytes r after p h)
 
-  pub opening-counts : (s : List ℕ) → Opens form key nonce ad s t out r after → Counts (length (foundInputs (aes key) (formOf form) nonce ad t s)) r
-  unfolding Opens
-  opening-counts s p =
+  open-counts : (s : List ℕ) (seal : List ℕ → List ℕ) → OpensBy (callCheck form known (length nonce) t (length ad) (openNext t (length s) (length out))) k seal s out r after
+      → Counts k r
+  open-counts s seal p =
       record {
-        ran = by-open checks _ (sealing form key nonce ad t) s out r after (stop-is Fits (length s - t) checks verdict) (opening-not-7 form key nonce ad s t out) p;
+        ran = by-open checks k seal s out r after (stop-is Fits (length s - t) checks verdict) (open-not-7 form known nonce ad s t out) p;
         refused = no-runs r;
       }
     where
       Fits : Type 0
-      Fits = Called form (length key) (length nonce) t (length ad) × (t ≤ length s) × (length s ≤ 16384 + t) × (length s - t ≤ length out)
+      Fits = Called form known (length nonce) t (length ad) × (t ≤ length s) × (length s ≤ 16384 + t) × (length s - t ≤ length out)
 
       checks : Check
-      checks = openCheck form (length key) (length nonce) t (length ad) (length s) (length out)
+      checks = callCheck form known (length nonce) t (length ad) (openNext t (length s) (length out))
 
       verdict : Verdict Fits (length s - t) checks
-      verdict = open-verdict form (length key) (length nonce) t (length ad) (length s) (length out)
+      verdict = open-verdict form known (length nonce) t (length ad) (length s) (length out)
+
+-- ---- under a raw key
+module _ (form : ℕ) (key nonce ad : List ℕ) (t : ℕ) (out : List ℕ) (r : Answer) (after : List ℕ) where
+  pub sealing-counts : (m : List ℕ) → Seals form key nonce ad m t out r after → Counts (length (otrInputs (aes key) (formOf form) nonce ad t m)) r
+  unfolding Seals
+  sealing-counts m = seal-counts form (keyKnown key) nonce ad t out r after (sealRuns form key nonce ad t m) m (sealing form key nonce ad t m)
+
+  pub opening-counts : (s : List ℕ) → Opens form key nonce ad s t out r after → Counts (length (foundInputs (aes key) (formOf form) nonce ad t s)) r
+  unfolding Opens
+  opening-counts s = open-counts form (keyKnown key) nonce ad t out r after (openRuns form key nonce ad t s) s (sealing form key nonce ad t)
+
+-- ---- under a prepared key
+module _ (form : ℕ) (p : Prepared) (nonce ad : List ℕ) (t : ℕ) (out : List ℕ) (r : Answer) (after : List ℕ) where
+  pub sealing-with-counts : (m : List ℕ) → SealsWith form p nonce ad m t out r after → Counts (length (fromInputs (cipherOf p) (p .zero) (formOf form) nonce ad t m)) r
+  unfolding SealsWith
+  sealing-with-counts m = seal-counts form (roundsKnown p) nonce ad t out r after (sealRunsWith form p nonce ad t m) m (sealingWith form p nonce ad t m)
+
+  pub opening-with-counts : (s : List ℕ) → OpensWith form p nonce ad s t out r after → Counts (length (foundFromInputs (cipherOf p) (p .zero) (formOf form) nonce ad t s)) r
+  unfolding OpensWith
+  opening-with-counts s = open-counts form (roundsKnown p) nonce ad t out r after (openRunsWith form p nonce ad t s) s (sealingWith form p nonce ad t)
 
 -- ---- the formulas, by lengths alone
-formula-is : (f : Form) (m ad : ℕ) → 2 + (m + 15) / 16 + (min 1 ad + (ad + 15) / 16) ≡ formula f m ad
+formula-is : (f : Form) (m ad : ℕ) → min 1 ad + (2 + (m + 15) / 16 + (ad + 15) / 16) ≡ formula f m ad
 formula-is parallel m zero = omega arith
 formula-is parallel m (suc b) = omega arith
 formula-is serial m zero = omega arith
@@ -81,16 +106,34 @@ formula-is serial m (suc b) = omega arith
 pub forms-alike : (m ad : ℕ) → formula serial m ad ≡ formula parallel m ad
 forms-alike m ad = sym (formula-is serial m ad) ∙ formula-is parallel m ad
 
+-- a prepared key loses the one for the zero block
+pub one-less : (f : Form) (m ad : ℕ) → formula f m ad ≡ min 1 ad + formulaWith m ad
+one-less f m ad = sym (formula-is f m ad)
+
 module _ (form : ℕ) (key nonce ad : List ℕ) (t : ℕ) (out : List ℕ) (r : Answer) (after : List ℕ) where
+  -- the runs for the first Q and those with it at hand
+  with-zero : (others : List (List ℕ)) (m : ℕ) → length others ≡ 2 + (m + 15) / 16 + (length ad + 15) / 16
+      → length (qInputs (withData ad) ++ others) ≡ formula (formOf form) m (length ad)
+  with-zero others m h =
+      length-append (qInputs (withData ad)) others ∙ ap₂ _+_ (length-qInputs ad) h ∙ formula-is (formOf form) m (length ad)
+
   pub sealing-formula : (m : List ℕ) → Seals form key nonce ad m t out r after → numberOf r ≡ 0 → runsOf r ≡ formula (formOf form) (length m) (length ad)
   sealing-formula m p z =
       sealing-counts form key nonce ad t out r after m p .ran (inl z)
-      ∙ length-otrInputs (aes key) (formOf form) nonce ad t m
-      ∙ formula-is (formOf form) (length m) (length ad)
+      ∙ with-zero _ (length m) (length-fromInputs (aes key) (aes key (zeros 16)) (formOf form) nonce ad t m)
 
   pub opening-formula : (s : List ℕ) → Opens form key nonce ad s t out r after → (numberOf r ≡ 0) ⊎ (numberOf r ≡ 7)
       → runsOf r ≡ formula (formOf form) (length s - t) (length ad)
   opening-formula s p z =
       opening-counts form key nonce ad t out r after s p .ran z
-      ∙ length-foundInputs (aes key) (formOf form) nonce ad t s
-      ∙ formula-is (formOf form) (length s - t) (length ad)
+      ∙ with-zero _ (length s - t) (length-foundFromInputs (aes key) (aes key (zeros 16)) (formOf form) nonce ad t s)
+
+module _ (form : ℕ) (p : Prepared) (nonce ad : List ℕ) (t : ℕ) (out : List ℕ) (r : Answer) (after : List ℕ) where
+  pub sealing-with-formula : (m : List ℕ) → SealsWith form p nonce ad m t out r after → numberOf r ≡ 0 → runsOf r ≡ formulaWith (length m) (length ad)
+  sealing-with-formula m h z =
+      sealing-with-counts form p nonce ad t out r after m h .ran (inl z) ∙ length-fromInputs (cipherOf p) (p .zero) (formOf form) nonce ad t m
+
+  pub opening-with-formula : (s : List ℕ) → OpensWith form p nonce ad s t out r after → (numberOf r ≡ 0) ⊎ (numberOf r ≡ 7)
+      → runsOf r ≡ formulaWith (length s - t) (length ad)
+  opening-with-formula s h z =
+      opening-with-counts form p nonce ad t out r after s h .ran z ∙ length-foundFromInputs (cipherOf p) (p .zero) (formOf form) nonce ad t s

@@ -1,25 +1,33 @@
--- The promises decide: any two results that one of them allows for the same input are equal, answer with its runs and buffer, for every input.
--- Assumes nothing.
+-- The promises decide: any two results that one of them allows for the same input are equal, answer with its runs and buffer, for every input,
+-- under a raw key and under any record. Assumes nothing.
 use mathlib.Core.Path.{_≡_, refl, sym, ap, _∙_}
+use mathlib.Core.Bool.{Bool}
 use mathlib.Core.List.{List}
 use Prim.Native.Nat.{ℕ, _+_, _-_, _≤_}
 use native.Mathlib.Omega.{arith}
 use lib.ListN.{length}
+use Rattle.lists.specs.Zeros.{zeros}
 use Rattle.aes.specs.Expansion.{aes}
 use Rattle.mode.specs.Form.{formOf}
+use Rattle.mode.specs.Masks.{IsCipher}
+use Rattle.mode.specs.Sealing.{dataTag, otrFrom}
 use Rattle.mode.specs.Opening.{Opened, Allowed}
 use Rattle.mode.proofs.Third.{otr-one-answer}
 use Rattle.passes.specs.Shown.{shown}
-use Rattle.link.specs.Checks.{Check, pass, stop, sealCheck, openCheck}
-use Rattle.link.specs.Promises.{sealing, sealRuns, openRuns, SealsBy, Seals, openedAs, OpensBy, Opens}
+use Rattle.pairs.proofs.Cipher.{is-cipher, length-ta}
+use Rattle.link.specs.Checks.{Check, pass, stop, knownKey, knownRounds, callCheck, openNext, sealCheck, sealWithCheck}
+use Rattle.link.specs.Prepared.{cipherOf}
+use Rattle.link.specs.Promises.{sealing, sealRuns, openRuns, SealsBy, Seals, openedAs, OpensBy, Opens, sealingWith, sealRunsWith, openRunsWith, SealsWith, OpensWith}
 use Rattle.link.specs.declared.answer.Answer.{Answer}
+use Rattle.link.specs.declared.prepared.Prepared.{Prepared}
 use Rattle.link.proofs.Verdicts.{Verdict, passes, stops, Called, open-verdict}
-use Rattle.link.proofs.Entries.{aes-cipher}
+use Rattle.link.proofs.Entries.{aes-cipher, aes-ta}
 
 -- a check that passes does not stop
 pub pass-or-stop : (n : ℕ) (x : Answer) → pass n ≡ stop x → ⊥
 pass-or-stop n x e = let z : _≡_ {A = ℕ} 0 1 = cc in omega arith
 
+-- ---- sealing
 by-seal : (c : Check) (k : ℕ) (bytes out : List ℕ) (r r′ : Answer) (a a′ : List ℕ) → SealsBy c k bytes out r a → SealsBy c k bytes out r′ a′ → (r ≡ r′) × (a ≡ a′)
 by-seal (pass n) k bytes out r r′ a a′ p q = (p .0 ∙ sym (q .0), p .1 ∙ sym (q .1))
 by-seal (stop x) k bytes out r r′ a a′ p q = (p .0 ∙ sym (q .0), p .1 ∙ sym (q .1))
@@ -30,7 +38,13 @@ unfolding Seals
 seals-decided form key nonce ad m t out =
     by-seal (sealCheck form (length key) (length nonce) t (length ad) (length m) (length out)) (sealRuns form key nonce ad t m) (sealing form key nonce ad t m) out
 
--- where sealing allows one answer alone
+pub seals-with-decided : (form : ℕ) (p : Prepared) (nonce ad m : List ℕ) (t : ℕ) (out : List ℕ) (r r′ : Answer) (a a′ : List ℕ)
+    → SealsWith form p nonce ad m t out r a → SealsWith form p nonce ad m t out r′ a′ → (r ≡ r′) × (a ≡ a′)
+unfolding SealsWith
+seals-with-decided form p nonce ad m t out =
+    by-seal (sealWithCheck form (p .rounds) (length nonce) t (length ad) (length m) (length out)) (sealRunsWith form p nonce ad t m) (sealingWith form p nonce ad t m) out
+
+-- ---- opening: where sealing allows one answer alone
 by-open : (c : Check) (k : ℕ) (seal : List ℕ → List ℕ) (s out : List ℕ) → ((n : ℕ) → c ≡ pass n → (o p : Opened) → Allowed seal s o → Allowed seal s p → o ≡ p)
     → (r r′ : Answer) (a a′ : List ℕ) → OpensBy c k seal s out r a → OpensBy c k seal s out r′ a′ → (r ≡ r′) × (a ≡ a′)
 by-open (pass n) k seal s out one r r′ a a′ p q =
@@ -38,20 +52,39 @@ by-open (pass n) k seal s out one r r′ a a′ p q =
     (p .2 ∙ ap (openedAs n k) same ∙ sym (q .2), p .3 ∙ ap (λ (o : Opened). shown o n out) same ∙ sym (q .3))
 by-open (stop x) k seal s out one r r′ a a′ p q = (p .0 ∙ sym (q .0), p .1 ∙ sym (q .1))
 
+-- as it does with any cipher, and any first mask with which TA has 16 bytes, once the checks have passed
+module _ (E : List ℕ → List ℕ) (e : IsCipher E) (q : List ℕ) (form : ℕ) (known : Bool) (nonce ad s : List ℕ) (t : ℕ) (out : List ℕ)
+    (h : length (dataTag E q (formOf form) ad) ≡ 16) where
+  checks : Check
+  checks = callCheck form known (length nonce) t (length ad) (openNext t (length s) (length out))
+
+  one : (n : ℕ) → checks ≡ pass n → (o p : Opened) → Allowed (otrFrom E q (formOf form) nonce ad t) s o → Allowed (otrFrom E q (formOf form) nonce ad t) s p → o ≡ p
+  unfolding checks
+  one n is = go (open-verdict form known (length nonce) t (length ad) (length s) (length out))
+    where
+      go : Verdict
+          (Called form known (length nonce) t (length ad) × (t ≤ length s) × (length s ≤ 16384 + t) × (length s - t ≤ length out))
+          (length s - t) checks
+          → (o p : Opened) → Allowed (otrFrom E q (formOf form) nonce ad t) s o → Allowed (otrFrom E q (formOf form) nonce ad t) s p → o ≡ p
+      go (passes f w) = otr-one-answer E e q (formOf form) nonce ad t h (f .0 .nonces .1) (f .0 .tags .1) s
+      go (stops x z w) = λ o p q r. absurd (pass-or-stop n x (sym is ∙ w))
+
+  opening-decided : (k : ℕ) (r r′ : Answer) (a a′ : List ℕ)
+      → OpensBy (callCheck form known (length nonce) t (length ad) (openNext t (length s) (length out))) k (otrFrom E q (formOf form) nonce ad t) s out r a
+      → OpensBy (callCheck form known (length nonce) t (length ad) (openNext t (length s) (length out))) k (otrFrom E q (formOf form) nonce ad t) s out r′ a′
+      → (r ≡ r′) × (a ≡ a′)
+  unfolding checks
+  opening-decided k = by-open checks k (otrFrom E q (formOf form) nonce ad t) s out one
+
 pub opens-decided : (form : ℕ) (key nonce ad s : List ℕ) (t : ℕ) (out : List ℕ) (r r′ : Answer) (a a′ : List ℕ)
     → Opens form key nonce ad s t out r a → Opens form key nonce ad s t out r′ a′ → (r ≡ r′) × (a ≡ a′)
 unfolding Opens
-opens-decided form key nonce ad s t out = by-open checks (openRuns form key nonce ad t s) (sealing form key nonce ad t) s out one
-  where
-    checks : Check
-    checks = openCheck form (length key) (length nonce) t (length ad) (length s) (length out)
+opens-decided form key nonce ad s t out =
+    opening-decided (aes key) (aes-cipher key) (aes key (zeros 16)) form (knownKey (length key)) nonce ad s t out (aes-ta key (formOf form) ad) (openRuns form key nonce ad t s)
 
-    one : (n : ℕ) → checks ≡ pass n → (o p : Opened) → Allowed (sealing form key nonce ad t) s o → Allowed (sealing form key nonce ad t) s p → o ≡ p
-    one n e = go (open-verdict form (length key) (length nonce) t (length ad) (length s) (length out))
-      where
-        go : Verdict
-            (Called form (length key) (length nonce) t (length ad) × (t ≤ length s) × (length s ≤ 16384 + t) × (length s - t ≤ length out))
-            (length s - t) checks
-            → (o p : Opened) → Allowed (sealing form key nonce ad t) s o → Allowed (sealing form key nonce ad t) s p → o ≡ p
-        go (passes f w) = otr-one-answer (aes key) (aes-cipher key) (formOf form) nonce ad t (f .0 .nonces .1) (f .0 .tags .1) s
-        go (stops x z w) = λ o p q r. absurd (pass-or-stop n x (sym e ∙ w))
+pub opens-with-decided : (form : ℕ) (p : Prepared) (nonce ad s : List ℕ) (t : ℕ) (out : List ℕ) (r r′ : Answer) (a a′ : List ℕ)
+    → OpensWith form p nonce ad s t out r a → OpensWith form p nonce ad s t out r′ a′ → (r ≡ r′) × (a ≡ a′)
+unfolding OpensWith
+opens-with-decided form p nonce ad s t out =
+    opening-decided (cipherOf p) (is-cipher (p .rounds) (p .words)) (p .zero) form (knownRounds (p .rounds)) nonce ad s t out
+    (length-ta (p .rounds) (p .words) (p .zero) (formOf form) ad) (openRunsWith form p nonce ad t s)

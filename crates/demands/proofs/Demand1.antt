@@ -1,25 +1,26 @@
 -- Demand 1: whatever bytes and lengths come in, a call ends with done or one of the eight numbered refusals, in the fixed order, 8
 -- first. Refusals 8 and 1 to 6 change no buffer. Refusal 7 sets the first bytes of the output, as many as the ciphertext has, to zero and
--- touches nothing behind them. Assumes nothing.
+-- touches nothing behind them. Under a raw key and under a prepared one. Assumes nothing.
 use mathlib.Core.Path.{_≡_, refl, sym, ap, subst, _∙_}
-use mathlib.Core.Bool.{Bool, true, false, _||_}
+use mathlib.Core.Bool.{Bool, true, false}
 use mathlib.Core.Logic.{_⊎_, inl, inr}
 use mathlib.Core.List.{List, [], _∷_}
 use Prim.Native.Nat.{ℕ, _+_, _-_, _≤_}
 use native.Mathlib.Omega.{arith}
-use lib.Dec.{eqb, leb}
+use lib.Dec.{leb}
 use lib.ListN.{length}
 use Rattle.lists.specs.Lay.{lay}
 use Rattle.lists.specs.Zeros.{zeros}
 use Rattle.mode.specs.Opening.{accepted, refused}
 use Rattle.link.specs.Answers.{numberOf, lengthOf}
-use Rattle.link.specs.Checks.{Check, pass, stop, from-to, unless, callCheck, sealCheck, openCheck, asAnswer}
-use Rattle.link.specs.Promises.{sealing, sealRuns, openRuns, SealsBy, Seals, OpensBy, Opens}
+use Rattle.link.specs.Checks.{Check, pass, stop, from-to, unless, callCheck, sealNext, openNext, asAnswer}
+use Rattle.link.specs.Promises.{sealing, sealRuns, openRuns, SealsBy, Seals, OpensBy, Opens, sealingWith, sealRunsWith, openRunsWith, SealsWith, OpensWith}
 use Rattle.link.specs.declared.answer.Answer.{Answer}
 use Rattle.link.specs.declared.answer.Answer.the-variants.{Key, Nonce, Tag, Data, Length, Room, Form}
+use Rattle.link.specs.declared.prepared.Prepared.{Prepared}
 use Rattle.link.proofs.Answers.{Answered, done, forged, refusal, answered}
 use Rattle.link.proofs.Verdicts.{Verdict, passes, stops, Called, open-verdict}
-use Rattle.demands.specs.Calls.{firstFailing, sealChecks, openChecks}
+use Rattle.demands.specs.Calls.{firstFailing, keyKnown, roundsKnown, sealChecks, openChecks}
 use Rattle.demands.proofs.Decided.{pass-or-stop}
 
 -- the checks as a list and as an answer agree in the number
@@ -65,23 +66,42 @@ by-seal : (c : Check) (k : ℕ) (bytes out : List ℕ) (r : Answer) (after : Lis
 by-seal (pass n) k bytes out r after p = (ap numberOf (p .0), λ z. absurd (z (ap numberOf (p .0))))
 by-seal (stop x) k bytes out r after p = (ap numberOf (p .0), λ z. (refusal-length r z, p .1))
 
-pub sealing-answers : (form : ℕ) (key nonce ad m : List ℕ) (t : ℕ) (out : List ℕ) (r : Answer) (after : List ℕ) → Seals form key nonce ad m t out r after
-    → (numberOf r ≡ firstFailing (sealChecks form key nonce ad m t out)) × ((numberOf r ≡ 0 → ⊥) → (lengthOf r ≡ 0) × (after ≡ out))
-unfolding Seals sealCheck callCheck
-sealing-answers form key nonce ad m t out r after p =
-    let q = by-seal (sealCheck form (length key) (length nonce) t (length ad) (length m) (length out)) (sealRuns form key nonce ad t m) (sealing form key nonce ad t m) out r after p in (
-      q .0
-          ∙ number-of (leb form 1) (eqb (length key) 16 || (eqb (length key) 24 || eqb (length key) 32)) (from-to 1 15 (length nonce)) (from-to 4 16 t) (leb (length ad) 4096)
-          (leb (length m) 16384) (leb (length m + t) (length out)) (length m + t),
-      q .1,
-    )
+-- whether the key is known is all that the checks take of it
+module _ (form : ℕ) (known : Bool) (nonce ad m : List ℕ) (t : ℕ) (out : List ℕ) where
+  seal-number : numberOf (asAnswer (callCheck form known (length nonce) t (length ad) (sealNext t (length m) (length out)))) ≡ firstFailing (sealChecks form known nonce ad m t out)
+  unfolding callCheck
+  seal-number =
+      number-of (leb form 1) known (from-to 1 15 (length nonce)) (from-to 4 16 t) (leb (length ad) 4096) (leb (length m) 16384)
+      (leb (length m + t) (length out)) (length m + t)
 
--- sealing does not answer 7
-pub sealing-not-7 : (form : ℕ) (key nonce ad m : List ℕ) (t : ℕ) (out : List ℕ) (r : Answer) (after : List ℕ) → Seals form key nonce ad m t out r after
-    → numberOf r ≡ 7 → ⊥
-sealing-not-7 form key nonce ad m t out r after p h =
-    never-7 (leb form 1) (eqb (length key) 16 || (eqb (length key) 24 || eqb (length key) 32)) (from-to 1 15 (length nonce)) (from-to 4 16 t) (leb (length ad) 4096)
-    (leb (length m) 16384) (leb (length m + t) (length out)) (sym (sealing-answers form key nonce ad m t out r after p .0) ∙ h)
+  -- they do not stop at 7
+  pub seal-not-7 : numberOf (asAnswer (callCheck form known (length nonce) t (length ad) (sealNext t (length m) (length out)))) ≡ 7 → ⊥
+  seal-not-7 h =
+      never-7 (leb form 1) known (from-to 1 15 (length nonce)) (from-to 4 16 t) (leb (length ad) 4096) (leb (length m) 16384)
+      (leb (length m + t) (length out)) (sym seal-number ∙ h)
+
+  module _ (k : ℕ) (bytes : List ℕ) (r : Answer) (after : List ℕ)
+      (p : SealsBy (callCheck form known (length nonce) t (length ad) (sealNext t (length m) (length out))) k bytes out r after) where
+    answers-seal : (numberOf r ≡ firstFailing (sealChecks form known nonce ad m t out)) × ((numberOf r ≡ 0 → ⊥) → (lengthOf r ≡ 0) × (after ≡ out))
+    answers-seal =
+        let q = by-seal (callCheck form known (length nonce) t (length ad) (sealNext t (length m) (length out))) k bytes out r after p in
+        (q .0 ∙ seal-number, q .1)
+
+    -- sealing does not answer 7
+    pub answers-not-7 : numberOf r ≡ 7 → ⊥
+    answers-not-7 h = seal-not-7 (seal-number ∙ sym (answers-seal .0) ∙ h)
+
+pub sealing-answers : (form : ℕ) (key nonce ad m : List ℕ) (t : ℕ) (out : List ℕ) (r : Answer) (after : List ℕ) → Seals form key nonce ad m t out r after
+    → (numberOf r ≡ firstFailing (sealChecks form (keyKnown key) nonce ad m t out)) × ((numberOf r ≡ 0 → ⊥) → (lengthOf r ≡ 0) × (after ≡ out))
+unfolding Seals
+sealing-answers form key nonce ad m t out r after p =
+    answers-seal form (keyKnown key) nonce ad m t out (sealRuns form key nonce ad t m) (sealing form key nonce ad t m) r after p
+
+pub sealing-with-answers : (form : ℕ) (p : Prepared) (nonce ad m : List ℕ) (t : ℕ) (out : List ℕ) (r : Answer) (after : List ℕ) → SealsWith form p nonce ad m t out r after
+    → (numberOf r ≡ firstFailing (sealChecks form (roundsKnown p) nonce ad m t out)) × ((numberOf r ≡ 0 → ⊥) → (lengthOf r ≡ 0) × (after ≡ out))
+unfolding SealsWith
+sealing-with-answers form p nonce ad m t out r after h =
+    answers-seal form (roundsKnown p) nonce ad m t out (sealRunsWith form p nonce ad t m) (sealingWith form p nonce ad t m) r after h
 
 -- ---- opening
 -- what an opening comes back with, where i is the number of the first failing check and n that of message bytes
@@ -137,36 +157,43 @@ module _ (P : Type 0) (n : ℕ) (c : Check) (v : Verdict P n c) where
           let yx : y ≡ x = cc in
           z (ap numberOf yx ∙ k)
 
--- the checks of opening do not stop at 7
-module _ (form : ℕ) (key nonce ad s : List ℕ) (t : ℕ) (out : List ℕ) where
-  key-in : Bool
-  key-in = eqb (length key) 16 || (eqb (length key) 24 || eqb (length key) 32)
-
-  open-number : numberOf (asAnswer (openCheck form (length key) (length nonce) t (length ad) (length s) (length out))) ≡ firstFailing (openChecks form key nonce ad s t out)
-  unfolding key-in openCheck callCheck
+-- the checks of opening
+module _ (form : ℕ) (known : Bool) (nonce ad s : List ℕ) (t : ℕ) (out : List ℕ) where
+  open-number : numberOf (asAnswer (callCheck form known (length nonce) t (length ad) (openNext t (length s) (length out)))) ≡ firstFailing (openChecks form known nonce ad s t out)
+  unfolding callCheck
   open-number =
-      number-of (leb form 1) key-in (from-to 1 15 (length nonce)) (from-to 4 16 t) (leb (length ad) 4096) (from-to t (16384 + t) (length s))
+      number-of (leb form 1) known (from-to 1 15 (length nonce)) (from-to 4 16 t) (leb (length ad) 4096) (from-to t (16384 + t) (length s))
       (leb (length s - t) (length out)) (length s - t)
 
-  pub opening-not-7 : numberOf (asAnswer (openCheck form (length key) (length nonce) t (length ad) (length s) (length out))) ≡ 7 → ⊥
-  unfolding key-in
-  opening-not-7 h =
-      never-7 (leb form 1) key-in (from-to 1 15 (length nonce)) (from-to 4 16 t) (leb (length ad) 4096) (from-to t (16384 + t) (length s))
+  pub open-not-7 : numberOf (asAnswer (callCheck form known (length nonce) t (length ad) (openNext t (length s) (length out)))) ≡ 7 → ⊥
+  open-not-7 h =
+      never-7 (leb form 1) known (from-to 1 15 (length nonce)) (from-to 4 16 t) (leb (length ad) 4096) (from-to t (16384 + t) (length s))
       (leb (length s - t) (length out)) (sym open-number ∙ h)
 
+  answers-open : (k : ℕ) (seal : List ℕ → List ℕ) (r : Answer) (after : List ℕ)
+      → OpensBy (callCheck form known (length nonce) t (length ad) (openNext t (length s) (length out))) k seal s out r after
+      → Answers (firstFailing (openChecks form known nonce ad s t out)) (length s - t) out r after
+  answers-open k seal r after p =
+      subst (λ (i : ℕ). Answers i (length s - t) out r after) open-number
+      (by-open checks (length s - t) k seal s out r after open-not-7 (pass-is Fits (length s - t) checks verdict) (stop-is Fits (length s - t) checks verdict) p)
+    where
+      checks : Check
+      checks = callCheck form known (length nonce) t (length ad) (openNext t (length s) (length out))
+
+      Fits : Type 0
+      Fits = Called form known (length nonce) t (length ad) × (t ≤ length s) × (length s ≤ 16384 + t) × (length s - t ≤ length out)
+
+      verdict : Verdict Fits (length s - t) checks
+      verdict = open-verdict form known (length nonce) t (length ad) (length s) (length out)
+
 pub opening-answers : (form : ℕ) (key nonce ad s : List ℕ) (t : ℕ) (out : List ℕ) (r : Answer) (after : List ℕ) → Opens form key nonce ad s t out r after
-    → Answers (firstFailing (openChecks form key nonce ad s t out)) (length s - t) out r after
+    → Answers (firstFailing (openChecks form (keyKnown key) nonce ad s t out)) (length s - t) out r after
 unfolding Opens
 opening-answers form key nonce ad s t out r after p =
-    subst (λ (i : ℕ). Answers i (length s - t) out r after) (open-number form key nonce ad s t out)
-    (by-open checks (length s - t) (openRuns form key nonce ad t s) (sealing form key nonce ad t) s out r after (opening-not-7 form key nonce ad s t out)
-    (pass-is Fits (length s - t) checks verdict) (stop-is Fits (length s - t) checks verdict) p)
-  where
-    checks : Check
-    checks = openCheck form (length key) (length nonce) t (length ad) (length s) (length out)
+    answers-open form (keyKnown key) nonce ad s t out (openRuns form key nonce ad t s) (sealing form key nonce ad t) r after p
 
-    Fits : Type 0
-    Fits = Called form (length key) (length nonce) t (length ad) × (t ≤ length s) × (length s ≤ 16384 + t) × (length s - t ≤ length out)
-
-    verdict : Verdict Fits (length s - t) checks
-    verdict = open-verdict form (length key) (length nonce) t (length ad) (length s) (length out)
+pub opening-with-answers : (form : ℕ) (p : Prepared) (nonce ad s : List ℕ) (t : ℕ) (out : List ℕ) (r : Answer) (after : List ℕ) → OpensWith form p nonce ad s t out r after
+    → Answers (firstFailing (openChecks form (roundsKnown p) nonce ad s t out)) (length s - t) out r after
+unfolding OpensWith
+opening-with-answers form p nonce ad s t out r after h =
+    answers-open form (roundsKnown p) nonce ad s t out (openRunsWith form p nonce ad t s) (sealingWith form p nonce ad t) r after h

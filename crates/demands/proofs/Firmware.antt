@@ -7,7 +7,7 @@ use native.Mathlib.Omega.{arith}
 use lib.ListN.{length}
 use Rattle.mode.specs.Opening.{accepted, refused}
 use Rattle.link.specs.Answers.{numberOf, lengthOf, answerOf}
-use Rattle.link.specs.Checks.{Check, pass, sealCheck, openCheck}
+use Rattle.link.specs.Checks.{Check, pass, knownKey, sealCheck, openCheck}
 use Rattle.link.specs.Promises.{sealing, sealRuns, openRuns, SealsBy, Seals, OpensBy, Opens}
 use Rattle.link.specs.declared.answer.Answer.{Answer}
 use Rattle.link.proofs.Answers.{stands-for}
@@ -76,7 +76,7 @@ module _ (form : ℕ) (key nonce ad body : List ℕ) (t : ℕ) (out : List ℕ) 
   seal-answer =
       from-number (Seals form key nonce ad body t out) (length body + t) (sealRuns form key nonce ad t body)
       (λ r a. seal-long (sealCheck form (length key) (length nonce) t (length ad) (length body) (length out))
-      (seal-verdict form (length key) (length nonce) t (length ad) (length body) (length out)) r a (sealRuns form key nonce ad t body) (sealing form key nonce ad t body) out)
+      (seal-verdict form (knownKey (length key)) (length nonce) t (length ad) (length body) (length out)) r a (sealRuns form key nonce ad t body) (sealing form key nonce ad t body) out)
       (λ r a. sealing-counts form key nonce ad t out r a body)
 
   pub open-answer : (n : ℕ) (a : List ℕ) → Numbered (Opens form key nonce ad body t out) n a
@@ -85,7 +85,7 @@ module _ (form : ℕ) (key nonce ad body : List ℕ) (t : ℕ) (out : List ℕ) 
   open-answer =
       from-number (Opens form key nonce ad body t out) (length body - t) (openRuns form key nonce ad t body)
       (λ r a. open-long (openCheck form (length key) (length nonce) t (length ad) (length body) (length out))
-      (open-verdict form (length key) (length nonce) t (length ad) (length body) (length out)) r a (openRuns form key nonce ad t body) (sealing form key nonce ad t) body out)
+      (open-verdict form (knownKey (length key)) (length nonce) t (length ad) (length body) (length out)) r a (openRuns form key nonce ad t body) (sealing form key nonce ad t) body out)
       (λ r a. opening-counts form key nonce ad t out r a body)
 
 -- ---- wrong programs that the number brings, at the named inputs of `Wrong` in the parallel form, where any number but 0 is wrong

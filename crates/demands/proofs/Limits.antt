@@ -1,33 +1,38 @@
 -- Within the limits every check passes. Assumes nothing.
-use mathlib.Core.Path.{_≡_, ap₂, _∙_}
-use mathlib.Core.Bool.{true, _&&_, _||_}
-use mathlib.Core.Logic.{_⊎_, inl, inr}
+use mathlib.Core.Path.{_≡_, refl, ap₂, _∙_}
+use mathlib.Core.Bool.{Bool, true, false, _&&_, _||_}
+use mathlib.Core.Logic.{inl, inr}
 use Prim.Native.Nat.{ℕ, _+_, _-_, _≤_}
 use lib.Dec.{eqb}
-use borrow.Author.Tests.{le-leb}
-use Rattle.link.specs.Checks.{Check, pass, from-to, callCheck, sealNext, sealCheck, openNext, openCheck}
-use Rattle.demands.specs.Calls.{Limits}
+use borrow.Author.Tests.{eq-eqb, le-leb}
+use Rattle.link.specs.Checks.{Check, pass, from-to, callCheck, sealNext, openNext}
+use Rattle.demands.specs.Calls.{Limits, OneOf}
 
-known : (k : ℕ) → (k ≡ 16) ⊎ ((k ≡ 24) ⊎ (k ≡ 32)) → (eqb k 16 || (eqb k 24 || eqb k 32)) ≡ true
-known k (inl e) = rw e
-known k (inr (inl e)) = rw e
-known k (inr (inr e)) = rw e
+left : (x y : Bool) → x ≡ true → (x || y) ≡ true
+left x y e = rw e
+
+right : (x y : Bool) → y ≡ true → (x || y) ≡ true
+right true y e = refl
+right false y e = e
+
+pub known : (a b c n : ℕ) → OneOf a b c n → (eqb n a || (eqb n b || eqb n c)) ≡ true
+known a b c n (inl e) = left (eqb n a) (eqb n b || eqb n c) (eq-eqb n a e)
+known a b c n (inr (inl e)) = right (eqb n a) (eqb n b || eqb n c) (left (eqb n b) (eqb n c) (eq-eqb n b e))
+known a b c n (inr (inr e)) = right (eqb n a) (eqb n b || eqb n c) (right (eqb n b) (eqb n c) (eq-eqb n c e))
 
 range : (l h a : ℕ) → l ≤ a → a ≤ h → from-to l h a ≡ true
 range l h a p q = ap₂ _&&_ (le-leb l a p) (le-leb a h q)
 
-module _ (form key nonce t ad : ℕ) where
-  call-passes : (next : Check) → Limits form key nonce t ad → callCheck form key nonce t ad next ≡ next
+module _ (form : ℕ) (known : Bool) (nonce t ad : ℕ) (is : known ≡ true) (f : Limits form nonce t ad) where
+  call-passes : (next : Check) → callCheck form known nonce t ad next ≡ next
   unfolding callCheck
-  call-passes next f =
-      rw (le-leb form 1 (f .forms), known key (f .keys), range 1 15 nonce (f .nonces .0) (f .nonces .1), range 4 16 t (f .tags .0) (f .tags .1), le-leb ad 4096 (f .most))
+  call-passes next =
+      rw (le-leb form 1 (f .forms), is, range 1 15 nonce (f .nonces .0) (f .nonces .1), range 4 16 t (f .tags .0) (f .tags .1), le-leb ad 4096 (f .most))
 
-  pub seal-passes : (m o : ℕ) → Limits form key nonce t ad → m ≤ 16384 → m + t ≤ o → sealCheck form key nonce t ad m o ≡ pass (m + t)
-  unfolding sealCheck
-  seal-passes m o f p q =
-      call-passes (sealNext t m o) f ∙ rw (le-leb m 16384 p, le-leb (m + t) o q)
+  pub seal-passes : (m o : ℕ) → m ≤ 16384 → m + t ≤ o → callCheck form known nonce t ad (sealNext t m o) ≡ pass (m + t)
+  seal-passes m o p q =
+      call-passes (sealNext t m o) ∙ rw (le-leb m 16384 p, le-leb (m + t) o q)
 
-  pub open-passes : (s o : ℕ) → Limits form key nonce t ad → t ≤ s → s ≤ 16384 + t → s - t ≤ o → openCheck form key nonce t ad s o ≡ pass (s - t)
-  unfolding openCheck
-  open-passes s o f p q r =
-      call-passes (openNext t s o) f ∙ rw (range t (16384 + t) s p q, le-leb (s - t) o r)
+  pub open-passes : (s o : ℕ) → t ≤ s → s ≤ 16384 + t → s - t ≤ o → callCheck form known nonce t ad (openNext t s o) ≡ pass (s - t)
+  open-passes s o p q r =
+      call-passes (openNext t s o) ∙ rw (range t (16384 + t) s p q, le-leb (s - t) o r)

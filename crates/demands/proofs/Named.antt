@@ -67,7 +67,7 @@ module _ (E : List ℕ → List ℕ) (e : IsCipher E) (v a m : List ℕ) (t : �
   mask-long : length (E (doubles n v)) ≡ 16
   mask-long = e (doubles n v) (length-doubles n v hv)
 
-  byte-behind : getD (sealed E (third v) a t m) (32 * pairsOf (length m)) 0 ≡ bitXor (getD m (32 * pairsOf (length m)) 0) (getD (E (doubles (pairsOf (length m)) v)) 0 0)
+  pub byte-behind : getD (sealed E (third v) a t m) (32 * pairsOf (length m)) 0 ≡ bitXor (getD m (32 * pairsOf (length m)) 0) (getD (E (doubles (pairsOf (length m)) v)) 0 0)
   unfolding n front end sealed
   byte-behind =
       ap (λ (l : List ℕ). getD (l ++ tag-behind) (32 * n) 0) (body-parts E (third v) false m odd)
@@ -85,10 +85,10 @@ module _ (E : List ℕ → List ℕ) (e : IsCipher E) (v a m : List ℕ) (t : �
       place = omega (arith, front-long)
 
 -- the named key, expanded: each run below then has its round keys at hand
-w : List ℕ
+unfoldable pub w : List ℕ
 w = bytes 176 0x00000000000000000000000000000000626363636263636362636363626363639b9898c9f9fbfbaa9b9898c9f9fbfbaa90973450696ccffaf2f457330b0fac99ee06da7b876a1581759e42b27e91ee2b7f2e2b88f8443e098dda7cbbf34b9290ec614b851425758c99ff09376ab49ba7217517873550620bacaf6b3cc61bf09b0ef903333ba9613897060a04511dfa9fb1d4d8e28a7db9da1d7bb3de4c664941b4ef5bcb3e92e21123e951cf6f8f188e
 
-w-is : keyExpansion key ≡ w
+pub w-is : keyExpansion key ≡ w
 unfolding w xor product inverse affine substitute power temp next words keyExpansion
 w-is = refl
 
@@ -98,16 +98,16 @@ aes-is x = ap (λ (k : List ℕ). cipher 10 k x) w-is
 
 -- what a message seals to from the nonce block b, and its byte behind the pairs, where v is E(b)
 abbrev pub from-block : Form → List ℕ → ℕ → List ℕ → List ℕ
-from-block f b t m = sealed (aes key) (third (firstMask f (aes key b) (dataTag (aes key) f []))) (intoTag f (dataTag (aes key) f [])) t m
+from-block f b t m = sealed (aes key) (third (firstMask f (aes key b) (dataTag (aes key) (aes key (zeros 16)) f []))) (intoTag f (dataTag (aes key) (aes key (zeros 16)) f [])) t m
 
 byte-from : (f : Form) (b v m : List ℕ) (t : ℕ) → length b ≡ 16 → cipher 10 w b ≡ v → even (length m) ≡ false → 32 * pairsOf (length m) < length m
     → getD (from-block f b t m) (32 * pairsOf (length m)) 0
     ≡ bitXor (getD m (32 * pairsOf (length m)) 0) (getD (cipher 10 w (doubles (pairsOf (length m)) (doubles (doublings f) v))) 0 0)
 byte-from f b v m t h is odd some =
-    let a = intoTag f (dataTag (aes key) f []) in
+    let a = intoTag f (dataTag (aes key) (aes key (zeros 16)) f []) in
     let i = 32 * pairsOf (length m) in
     let long : length (aes key b) ≡ 16 = aes-cipher key b h in
-    ap (λ (u : List ℕ). getD (sealed (aes key) (third u) a t m) i 0) (without-data (aes key) f (aes key b) long)
+    ap (λ (u : List ℕ). getD (sealed (aes key) (third u) a t m) i 0) (without-data (aes key) (aes key (zeros 16)) f (aes key b) long)
     ∙ byte-behind (aes key) (aes-cipher key) (doubles (doublings f) (aes key b)) a m t (length-doubles (doublings f) (aes key b) long) odd some
     ∙ ap (λ (u : List ℕ). bitXor (getD m i 0) (getD (aes key (doubles (pairsOf (length m)) (doubles (doublings f) u))) 0 0)) (aes-is b ∙ is)
     ∙ ap (λ (y : List ℕ). bitXor (getD m i 0) (getD y 0 0)) (aes-is (doubles (pairsOf (length m)) (doubles (doublings f) v)))
@@ -128,7 +128,7 @@ unfolding blocks pairsOf even doubles
 first-of b v byte k f t = byte-from f b v (one 0) t (k .long) (k .is) refl (omega arith) ∙ ap (bitXor 0) (k .first f)
 
 -- the nonce of 12 and a tag of 16
-abbrev v12 : List ℕ
+abbrev pub v12 : List ℕ
 v12 = bytes 16 0xee944b2fe6e9fc888042608da9615f75
 
 abbrev byte12 : Form → ℕ
@@ -138,6 +138,9 @@ byte12 serial = 0x3a
 ciphered-12 : Ciphered (format 16 nonce) v12 byte12
 unfolding w xor zeros zipWith format shift double doubles product inverse affine substitute addRoundKey round lastRound rounds cipher
 ciphered-12 = record { long = refl; is = refl; first = either (λ f. getD (cipher 10 w (doubles (doublings f) v12)) 0 0 ≡ byte12 f) refl refl }
+
+pub nonce-12 : cipher 10 w (format 16 nonce) ≡ v12
+nonce-12 = ciphered-12 .is
 
 -- the nonce of 15 and a tag of 15
 abbrev v15 : List ℕ

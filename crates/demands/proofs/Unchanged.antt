@@ -25,7 +25,7 @@ use Rattle.link.specs.Checks.{Check, pass, stop, from-to, unless, callCheck, se
 use Rattle.link.specs.Promises.{sealing, sealRuns, openRuns, SealsBy, Seals, openedAs, OpensBy, Opens}
 use Rattle.link.specs.declared.answer.Answer.{Answer}
 use Rattle.link.specs.declared.answer.Answer.the-variants.{Done, Key, Nonce, Tag, Data}
-use Rattle.link.proofs.Answers.{stands-for}
+use Rattle.link.proofs.Answers.{parts}
 
 -- ---- what was: what a message seals to, from the nonce block b; and checks 1 to 4, for nonces of at most k bytes
 abbrev pub otrWas : (List ℕ → List ℕ) → List ℕ → List ℕ → ℕ → List ℕ → List ℕ
@@ -55,14 +55,14 @@ module _ (key nonce ad : List ℕ) (t : ℕ) (out : List ℕ) (r : Answer) (afte
   parallel-is = ap (λ (a : List ℕ). sealed (aes key) (third (aes key (format t nonce))) a t) (ta-as-it-was (aes key) ad)
 
   pub seals-parallel : (m : List ℕ) → Seals 0 key nonce ad m t out r after ≡ SealsWas 15 (format t nonce) m
-  unfolding Seals sealCheck callCheck
+  unfolding Seals callCheck
   seals-parallel m =
       ap
       (λ (seal : List ℕ → List ℕ). SealsBy (callCheckWas 15 (length key) (length nonce) t (length ad) (sealNext t (length m) (length out))) (sealRuns 0 key nonce ad t m) (seal m) out r after)
       parallel-is
 
   pub opens-parallel : (s : List ℕ) → Opens 0 key nonce ad s t out r after ≡ OpensWas 15 (format t nonce) s
-  unfolding Opens openCheck callCheck
+  unfolding Opens callCheck
   opens-parallel s =
       ap
       (λ (seal : List ℕ → List ℕ). OpensBy (callCheckWas 15 (length key) (length nonce) t (length ad) (openNext t (length s) (length out))) (openRuns 0 key nonce ad t s) seal s out r after)
@@ -90,10 +90,6 @@ module _ (key nonce ad : List ℕ) (t : ℕ) (out : List ℕ) (r : Answer) (afte
         ∙ ap₂ (λ (c : Check) (seal : List ℕ → List ℕ). OpensBy c (openRuns 0 key nonce ad t s) seal s out r after) (check-is (openNext t (length s) (length out))) otr-is
 
 -- ---- before the runs were counted: number, length and buffer
--- an answer is its number, its length and its runs
-parts : (r : Answer) → r ≡ answerOf (numberOf r) (lengthOf r) (runsOf r)
-parts r = stands-for r (lengthOf r) (runsOf r) (λ z. refl) (λ z. refl)
-
 same-parts : (r q : Answer) → numberOf r ≡ numberOf q → lengthOf r ≡ lengthOf q → runsOf r ≡ runsOf q → r ≡ q
 same-parts r q i n k = parts r ∙ ap₂ (λ (a b : ℕ). answerOf a b (runsOf r)) i n ∙ ap (answerOf (numberOf q) (lengthOf q)) k ∙ sym (parts q)
 

@@ -9,6 +9,7 @@ use native.Mathlib.Omega.{arith}
 use lib.ListN.{length, getD}
 use borrow.Author.Tests.{le-leb}
 use Rattle.lists.specs.Hex.{bytes}
+use Rattle.lists.specs.Zeros.{zeros}
 use Rattle.lists.proofs.Laid.{lay-whole}
 use Rattle.aes.specs.Expansion.{aes}
 use Rattle.mode.specs.Form.{Form, parallel, serial, formOf}
@@ -17,7 +18,7 @@ use Rattle.mode.proofs.Third.{length-otr, otr-injective}
 use Rattle.link.specs.Answers.{numberOf, runsOf}
 use Rattle.link.specs.Promises.{Seals, Opens}
 use Rattle.link.specs.declared.answer.Answer.{Answer}
-use Rattle.link.proofs.Entries.{aes-cipher}
+use Rattle.link.proofs.Entries.{aes-cipher, aes-ta}
 use Rattle.demands.specs.Calls.{Limits, formula}
 use Rattle.demands.proofs.Demand1.{sealing-answers, opening-answers}
 use Rattle.demands.proofs.Demand2.{is-sealed, round-trip}
@@ -57,22 +58,22 @@ forms parallel m = omega arith
 forms serial m = omega arith
 
 module _ (form : ℕ) (named : form ≤ 1) where
-  within : (k t : ℕ) → (1 ≤ k) × (k ≤ 15) → (4 ≤ t) × (t ≤ 16) → Limits form 16 k t 0
-  within k t hk ht = record { forms = named; keys = inl refl; nonces = hk; tags = ht; most = omega arith }
+  within : (k t : ℕ) → (1 ≤ k) × (k ≤ 15) → (4 ≤ t) × (t ≤ 16) → Limits form k t 0
+  within k t hk ht = record { forms = named; nonces = hk; tags = ht; most = omega arith }
 
-  limits : Limits form 16 12 16 0
+  limits : Limits form 12 16 0
   limits = within 12 16 (omega arith, omega arith) (omega arith, omega arith)
 
   injective : s form 0 ≡ s form 1 → ⊥
   unfolding s
-  injective e = differ (otr-injective (aes key) (aes-cipher key) (formOf form) nonce [] 16 (omega arith) (omega arith) (one 0) (one 1) e)
+  injective e = differ (otr-injective (aes key) (aes-cipher key) (aes key (zeros 16)) (formOf form) nonce [] 16 (aes-ta key (formOf form) []) (omega arith) (omega arith) (one 0) (one 1) e)
 
   -- a buffer with exactly the room is the sealed string afterwards
-  all-sealed : (nonce m : List ℕ) (t : ℕ) (room : List ℕ) → Limits form 16 (length nonce) t 0 → length m ≤ 16384 → length room ≡ length m + t
+  all-sealed : (nonce m : List ℕ) (t : ℕ) (room : List ℕ) → Limits form (length nonce) t 0 → length m ≤ 16384 → length room ≡ length m + t
       → (r : Answer) (after : List ℕ) → Seals form key nonce [] m t room r after → (numberOf r ≡ 0) × (after ≡ otr (aes key) (formOf form) nonce [] t m)
   all-sealed nonce m t room f short exact r after p =
-      let q = is-sealed form key nonce [] m t f short room (omega arith) r after p in
-      let long = length-otr (aes key) (aes-cipher key) (formOf form) nonce [] t (f .nonces .1) (f .tags .1) m in
+      let q = is-sealed form key nonce [] m t (inl refl) f short room (omega arith) r after p in
+      let long = length-otr (aes key) (aes-cipher key) (aes key (zeros 16)) (formOf form) nonce [] t (aes-ta key (formOf form) []) (f .nonces .1) (f .tags .1) m in
       (ap numberOf (q .0), q .1 ∙ lay-whole (otr (aes key) (formOf form) nonce [] t m) room (omega (arith, long)))
 
   -- so 17 bytes hold the sealed byte afterwards; and one byte, after opening that, the message again
@@ -83,7 +84,7 @@ module _ (form : ℕ) (named : form ≤ 1) where
   opened-one : (x : ℕ) (r : Answer) (after : List ℕ) → Opens form key nonce [] (s form x) 16 small r after → (numberOf r ≡ 0) × (after ≡ one x)
   unfolding s
   opened-one x r after p =
-      let q = round-trip form key nonce [] (one x) 16 limits (omega arith) small (omega arith) r after p in
+      let q = round-trip form key nonce [] (one x) 16 (inl refl) limits (omega arith) small (omega arith) r after p in
       (ap numberOf (q .0), q .1)
 
   -- ---- refuses everything
@@ -110,13 +111,13 @@ module _ (form : ℕ) (named : form ≤ 1) where
   -- what seals to 16 bytes is empty
   none : (m x : List ℕ) → length x ≡ 16 → otr (aes key) (formOf form) nonce [] 16 m ≡ x → m ≡ []
   none m x h e =
-      empty m (omega (arith, length-otr (aes key) (aes-cipher key) (formOf form) nonce [] 16 (omega arith) (omega arith) m, ap length e))
+      empty m (omega (arith, length-otr (aes key) (aes-cipher key) (aes key (zeros 16)) (formOf form) nonce [] 16 (aes-ta key (formOf form) []) (omega arith) (omega arith) m, ap length e))
 
   pub any-tag : (r r′ : Answer) (a a′ : List ℕ) → numberOf r ≡ 0 → numberOf r′ ≡ 0
       → Opens form key nonce [] (bytes 16 0) 16 [] r a → Opens form key nonce [] (bytes 16 1) 16 [] r′ a′ → ⊥
   any-tag r r′ a a′ h h′ p q =
-      let f = opening form key nonce [] (bytes 16 0) 16 [] r a limits (omega arith) (omega arith) (omega arith) p .done h in
-      let g = opening form key nonce [] (bytes 16 1) 16 [] r′ a′ limits (omega arith) (omega arith) (omega arith) q .done h′ in
+      let f = opening form nonce [] (bytes 16 0) 16 [] r a limits (omega arith) (omega arith) (omega arith) key (inl refl) p .done h in
+      let g = opening form nonce [] (bytes 16 1) 16 [] r′ a′ limits (omega arith) (omega arith) (omega arith) key (inl refl) q .done h′ in
       let same : f .0 ≡ g .0 = none (f .0) (bytes 16 0) refl (f .1) ∙ sym (none (g .0) (bytes 16 1) refl (g .1)) in
       let e : bytes 16 0 ≡ bytes 16 1 = sym (f .1) ∙ ap (otr (aes key) (formOf form) nonce [] 16) same ∙ g .1 in
       let z : _≡_ {A = ℕ} 0 1 = ap (λ (l : List ℕ). getD l 15 0) e in
@@ -169,7 +170,7 @@ module _ (form : ℕ) (named : form ≤ 1) where
   pub opens-reporting-0 : (r : Answer) (after : List ℕ) → runsOf r ≡ 0 → Opens form key nonce [] (s form 0) 16 small r after → ⊥
   unfolding s
   opens-reporting-0 r after h p =
-      let long = length-otr (aes key) (aes-cipher key) (formOf form) nonce [] 16 (omega arith) (omega arith) (one 0) in
+      let long = length-otr (aes key) (aes-cipher key) (aes key (zeros 16)) (formOf form) nonce [] 16 (aes-ta key (formOf form) []) (omega arith) (omega arith) (one 0) in
       let ran = opening-formula form key nonce [] 16 small r after (s form 0) p (inl (opened-one 0 r after p .0)) ∙ forms (formOf form) (length (s form 0) - 16) in
       omega (arith, long, ran)
 
@@ -181,7 +182,7 @@ module _ (form : ℕ) (named : form ≤ 1) where
       omega arith
 
   -- ---- a nonce of 15 bytes and a tag of 15: byte 0 of the nonce block is f1
-  limits-15 : Limits form 16 15 15 0
+  limits-15 : Limits form 15 15 0
   limits-15 = within 15 15 (omega arith, omega arith) (omega arith, omega arith)
 
   sealed-15 : (r : Answer) (after : List ℕ) → Seals form key nonce15 [] (one 0) 15 room16 r after
@@ -195,7 +196,7 @@ module _ (form : ℕ) (named : form ≤ 1) where
   pub refuses-opening-15 : (r : Answer) (after : List ℕ) → (numberOf r ≡ 0 → ⊥)
       → Opens form key nonce15 [] (otr (aes key) (formOf form) nonce15 [] 15 (one 0)) 15 small r after → ⊥
   refuses-opening-15 r after z p =
-      z (ap numberOf (round-trip form key nonce15 [] (one 0) 15 limits-15 (omega arith) small (omega arith) r after p .0))
+      z (ap numberOf (round-trip form key nonce15 [] (one 0) 15 (inl refl) limits-15 (omega arith) small (omega arith) r after p .0))
 
   -- lays the marker over the tag byte, so that the nonce block is 01 and the nonce
   pub marker-laid-over : (r : Answer) → Seals form key nonce15 [] (one 0) 15 room16 r (from-block (formOf form) (1 ∷ nonce15) 15 (one 0)) → ⊥
@@ -219,10 +220,10 @@ pub opens-as-parallel : (r : Answer) (after : List ℕ)
     → Opens 0 key nonce [] (s 1 0) 16 small r after → Opens 1 key nonce [] (s 1 0) 16 small r after → ⊥
 unfolding s
 opens-as-parallel r after p q =
-    let long = length-otr (aes key) (aes-cipher key) serial nonce [] 16 (omega arith) (omega arith) (one 0) in
+    let long = length-otr (aes key) (aes-cipher key) (aes key (zeros 16)) serial nonce [] 16 (aes-ta key serial []) (omega arith) (omega arith) (one 0) in
     let is = opened-one 1 (omega arith) 0 r after q in
-    let f = opening 0 key nonce [] (s 1 0) 16 small r after (limits 0 (omega arith)) (omega (arith, long)) (omega (arith, long)) (omega (arith, long)) p .done (is .0) in
-    let found-long = length-otr (aes key) (aes-cipher key) parallel nonce [] 16 (omega arith) (omega arith) (f .0) in
+    let f = opening 0 nonce [] (s 1 0) 16 small r after (limits 0 (omega arith)) (omega (arith, long)) (omega (arith, long)) (omega (arith, long)) key (inl refl) p .done (is .0) in
+    let found-long = length-otr (aes key) (aes-cipher key) (aes key (zeros 16)) parallel nonce [] 16 (aes-ta key parallel []) (omega arith) (omega arith) (f .0) in
     let whole = lay-whole (f .0) small (omega (arith, long, found-long, ap length (f .1))) in
     forms-apart (ap (otr (aes key) parallel nonce [] 16) (sym (is .1) ∙ f .4 ∙ whole) ∙ f .1)
 

@@ -46,3 +46,7 @@ module _ (r : Answer) where
       go (done i j e) = e ∙ ap₂ Done (sym (ap lengthOf e) ∙ long (ap numberOf e)) (sym (ap runsOf e) ∙ ran (inl (ap numberOf e))) ∙ of (Done i j) e
       go (forged j e) = e ∙ ap Forged (sym (ap runsOf e) ∙ ran (inr (ap numberOf e))) ∙ of (Forged j) e
       go (refusal most none runs stands) = stands n k
+
+  -- so it is its number, its length and its runs
+  pub parts : r ≡ answerOf (numberOf r) (lengthOf r) (runsOf r)
+  parts = stands-for (lengthOf r) (runsOf r) (λ z. refl) (λ z. refl)

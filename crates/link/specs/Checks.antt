@@ -1,6 +1,6 @@
--- Document 01, 'Numbers a call may carry' and 'What comes back', with the form (document 02, wish 1) and nonces of 1 to 15 bytes
--- (wish 5): check 8, and then 1 to 6 in the order of their numbers. They go by the form's number and by lengths alone: of the key, the
--- nonce, the tag, the associated data, the message or the sealed bytes, and the output.
+-- Document 01, 'Numbers a call may carry' and 'What comes back', with the form (document 02, wish 1), nonces of 1 to 15 bytes (wish 5)
+-- and prepared keys (wish 9): check 8, and then 1 to 6 in the order of their numbers. They go by the form's number, by lengths alone, of
+-- the key, the nonce, the tag, the associated data, the message or the sealed bytes, and the output, and by a prepared key's round count.
 use mathlib.Core.Bool.{Bool, true, false, _&&_, _||_}
 use Prim.Native.Nat.{ℕ, _+_, _-_}
 use lib.Dec.{eqb, leb}
@@ -20,11 +20,18 @@ abbrev pub unless : Bool → Answer → Check → Check
 unless true r next = next
 unless false r next = stop r
 
--- checks 8 and 1 to 4, which sealing and opening share, and what comes after them
-unfoldable pub callCheck : ℕ → ℕ → ℕ → ℕ → ℕ → Check → Check
-callCheck form key nonce t ad next =
+-- check 1: the bytes that a key may have, and the rounds that a prepared key may
+abbrev pub knownKey : ℕ → Bool
+knownKey key = eqb key 16 || (eqb key 24 || eqb key 32)
+
+abbrev pub knownRounds : ℕ → Bool
+knownRounds rounds = eqb rounds 10 || (eqb rounds 12 || eqb rounds 14)
+
+-- checks 8 and 1 to 4, which all calls share, and what comes after them
+unfoldable pub callCheck : ℕ → Bool → ℕ → ℕ → ℕ → Check → Check
+callCheck form known nonce t ad next =
     unless (leb form 1) Form
-    (unless (eqb key 16 || (eqb key 24 || eqb key 32)) Key
+    (unless known Key
     (unless (from-to 1 15 nonce) Nonce
     (unless (from-to 4 16 t) Tag
     (unless (leb ad 4096) Data next))))
@@ -33,15 +40,21 @@ callCheck form key nonce t ad next =
 abbrev pub sealNext : ℕ → ℕ → ℕ → Check
 sealNext t m o = unless (leb m 16384) Length (unless (leb (m + t) o) Room (pass (m + t)))
 
-unfoldable pub sealCheck : ℕ → ℕ → ℕ → ℕ → ℕ → ℕ → ℕ → Check
-sealCheck form key nonce t ad m o = callCheck form key nonce t ad (sealNext t m o)
+abbrev pub sealCheck : ℕ → ℕ → ℕ → ℕ → ℕ → ℕ → ℕ → Check
+sealCheck form key nonce t ad m o = callCheck form (knownKey key) nonce t ad (sealNext t m o)
+
+abbrev pub sealWithCheck : ℕ → ℕ → ℕ → ℕ → ℕ → ℕ → ℕ → Check
+sealWithCheck form rounds nonce t ad m o = callCheck form (knownRounds rounds) nonce t ad (sealNext t m o)
 
 -- opening s sealed bytes into o bytes: checks 5 and 6, and all seven
 abbrev pub openNext : ℕ → ℕ → ℕ → Check
 openNext t s o = unless (from-to t (16384 + t) s) Length (unless (leb (s - t) o) Room (pass (s - t)))
 
-unfoldable pub openCheck : ℕ → ℕ → ℕ → ℕ → ℕ → ℕ → ℕ → Check
-openCheck form key nonce t ad s o = callCheck form key nonce t ad (openNext t s o)
+abbrev pub openCheck : ℕ → ℕ → ℕ → ℕ → ℕ → ℕ → ℕ → Check
+openCheck form key nonce t ad s o = callCheck form (knownKey key) nonce t ad (openNext t s o)
+
+abbrev pub openWithCheck : ℕ → ℕ → ℕ → ℕ → ℕ → ℕ → ℕ → Check
+openWithCheck form rounds nonce t ad s o = callCheck form (knownRounds rounds) nonce t ad (openNext t s o)
 
 -- a check as an answer, before the cipher has run
 abbrev pub asAnswer : Check → Answer

@@ -1,4 +1,5 @@
--- What the two entry points promise, for every input: the answer, with how many times the cipher ran, and the complete output buffer.
+-- What sealing and opening promise, under a raw key and under a prepared one, for every input: the answer, with how many times the cipher
+-- ran, and the complete output buffer.
 use mathlib.Core.Path.{_≡_}
 use mathlib.Core.List.{List}
 use Prim.Native.Nat.{ℕ}
@@ -6,13 +7,15 @@ use lib.ListN.{length}
 use Rattle.lists.specs.Lay.{lay}
 use Rattle.aes.specs.Expansion.{aes}
 use Rattle.mode.specs.Form.{formOf}
-use Rattle.mode.specs.Sealing.{otr, otrInputs}
+use Rattle.mode.specs.Sealing.{otrFrom, fromInputs, otr, otrInputs}
 use Rattle.mode.specs.Opening.{Opened, accepted, refused, Allowed}
-use Rattle.mode.specs.Undoing.{foundInputs}
+use Rattle.mode.specs.Undoing.{foundFromInputs, foundInputs}
 use Rattle.passes.specs.Shown.{shown}
-use Rattle.link.specs.Checks.{Check, pass, stop, sealCheck, openCheck}
+use Rattle.link.specs.Checks.{Check, pass, stop, sealCheck, sealWithCheck, openCheck, openWithCheck}
+use Rattle.link.specs.Prepared.{cipherOf}
 use Rattle.link.specs.declared.answer.Answer.{Answer}
 use Rattle.link.specs.declared.answer.Answer.the-variants.{Done, Forged}
+use Rattle.link.specs.declared.prepared.Prepared.{Prepared}
 
 -- AES-OTR v3.1 in the form named, over the AES of FIPS 197: what a message seals to
 abbrev pub sealing : ℕ → List ℕ → List ℕ → List ℕ → ℕ → List ℕ → List ℕ
@@ -50,3 +53,24 @@ unfoldable pub Opens : ℕ → List ℕ → List ℕ → List ℕ → List ℕ �
 Opens form key nonce ad s t out r after =
     OpensBy (openCheck form (length key) (length nonce) t (length ad) (length s) (length out)) (openRuns form key nonce ad t s)
     (sealing form key nonce ad t) s out r after
+
+-- ---- the same under any record p, made by `prepare` or not (document 02, wish 9): the cipher is that of the record, and the data pass's
+-- first mask is the one that it holds
+abbrev pub sealingWith : ℕ → Prepared → List ℕ → List ℕ → ℕ → List ℕ → List ℕ
+sealingWith form p nonce ad t = otrFrom (cipherOf p) (p .zero) (formOf form) nonce ad t
+
+abbrev pub sealRunsWith : ℕ → Prepared → List ℕ → List ℕ → ℕ → List ℕ → ℕ
+sealRunsWith form p nonce ad t m = length (fromInputs (cipherOf p) (p .zero) (formOf form) nonce ad t m)
+
+abbrev pub openRunsWith : ℕ → Prepared → List ℕ → List ℕ → ℕ → List ℕ → ℕ
+openRunsWith form p nonce ad t s = length (foundFromInputs (cipherOf p) (p .zero) (formOf form) nonce ad t s)
+
+unfoldable pub SealsWith : ℕ → Prepared → List ℕ → List ℕ → List ℕ → ℕ → List ℕ → Answer → List ℕ → Type 0
+SealsWith form p nonce ad m t out r after =
+    SealsBy (sealWithCheck form (p .rounds) (length nonce) t (length ad) (length m) (length out)) (sealRunsWith form p nonce ad t m)
+    (sealingWith form p nonce ad t m) out r after
+
+unfoldable pub OpensWith : ℕ → Prepared → List ℕ → List ℕ → List ℕ → ℕ → List ℕ → Answer → List ℕ → Type 0
+OpensWith form p nonce ad s t out r after =
+    OpensBy (openWithCheck form (p .rounds) (length nonce) t (length ad) (length s) (length out)) (openRunsWith form p nonce ad t s)
+    (sealingWith form p nonce ad t) s out r after

@@ -1,6 +1,6 @@
-// Check 8, and then 1 to 6 in the order of their numbers. They go by the form's number and by lengths alone.
+// Check 8, and then 1 to 6 in the order of their numbers. They go by the form's number, by lengths, and by a prepared key's round count.
 ghost use mathlib.Core.Path.{_≡_};
-ghost use Rattle.link.specs.Checks.{from-to as between, pass, callCheck, sealCheck, openCheck, asAnswer};
+ghost use Rattle.link.specs.Checks.{from-to as between, pass, knownKey, knownRounds, callCheck, sealNext, openNext, asAnswer};
 use crate::answer::Answer;
 use crate::answer::number;
 use aes::KeySize;
@@ -15,21 +15,43 @@ fn from_to(l: usize, h: usize, a: usize) -> bool
     a <= h
 }
 
-// The checks that sealing and opening share.
-fn call_check(form: usize, key: usize, nonce: usize, tag: usize, ad: usize) -> Answer
-    ensures { λ r. ⌜ r ≡ asAnswer (callCheck form key nonce tag ad (pass 0)) ⌝ }
+// Check 1, for a raw key of so many bytes.
+pub fn known_key(key: usize) -> bool
+    ensures { λ r. ⌜ r ≡ knownKey key ⌝ }
 {
-    if 1 < form {
-        return Answer::Form;
-    }
     let size = aes::key_size(key);
     let KeySize::Known {
         rounds: _,
         words: _,
     } = size
     else {
-        return Answer::Key;
+        return false;
     };
+    true
+}
+
+// Check 1, for a prepared key of so many rounds.
+pub fn known_rounds(rounds: usize) -> bool
+    ensures { λ r. ⌜ r ≡ knownRounds rounds ⌝ }
+{
+    match rounds {
+        10 => true,
+        12 => true,
+        14 => true,
+        _ => false,
+    }
+}
+
+// The checks that all calls share. Check 1 has been looked at: the key is known, or it is not.
+fn call_check(form: usize, known: bool, nonce: usize, tag: usize, ad: usize) -> Answer
+    ensures { λ r. ⌜ r ≡ asAnswer (callCheck form known nonce tag ad (pass 0)) ⌝ }
+{
+    if 1 < form {
+        return Answer::Form;
+    }
+    if !known {
+        return Answer::Key;
+    }
     if !from_to(1, 15, nonce) {
         return Answer::Nonce;
     }
@@ -44,16 +66,16 @@ fn call_check(form: usize, key: usize, nonce: usize, tag: usize, ad: usize) -> A
 
 pub fn seal_check(
     form: usize,
-    key: usize,
+    known: bool,
     nonce: usize,
     tag: usize,
     ad: usize,
     message: usize,
     room: usize,
 ) -> Answer
-    ensures { λ r. ⌜ r ≡ asAnswer (sealCheck form key nonce tag ad message room) ⌝ }
+    ensures { λ r. ⌜ r ≡ asAnswer (callCheck form known nonce tag ad (sealNext tag message room)) ⌝ }
 {
-    let first = call_check(form, key, nonce, tag, ad);
+    let first = call_check(form, known, nonce, tag, ad);
     if number(first) != 0 {
         return first;
     }
@@ -71,16 +93,16 @@ pub fn seal_check(
 
 pub fn open_check(
     form: usize,
-    key: usize,
+    known: bool,
     nonce: usize,
     tag: usize,
     ad: usize,
     sealed: usize,
     room: usize,
 ) -> Answer
-    ensures { λ r. ⌜ r ≡ asAnswer (openCheck form key nonce tag ad sealed room) ⌝ }
+    ensures { λ r. ⌜ r ≡ asAnswer (callCheck form known nonce tag ad (openNext tag sealed room)) ⌝ }
 {
-    let first = call_check(form, key, nonce, tag, ad);
+    let first = call_check(form, known, nonce, tag, ad);
     if number(first) != 0 {
         return first;
     }

@@ -1,16 +1,22 @@
-// The sealed link: AES-OTR v3.1, sealed and opened in one call each, with parallel (form 0) or serial (form 1) associated data. Neither
-// entry point asks anything of its caller; what they promise is in specs/Promises.antt.
-ghost use Rattle.link.specs.Promises.{Seals, Opens};
+// The sealed link: AES-OTR v3.1, sealed and opened in one call each, with parallel (form 0) or serial (form 1) associated data, under a
+// raw key or under a prepared one. No entry point asks anything of its caller; what they promise is in specs/Promises.antt and
+// specs/Prepared.antt.
+ghost use Rattle.link.specs.Promises.{Seals, Opens, SealsWith, OpensWith};
 
 mod answer;
 mod check;
 mod parameters;
+mod prepared;
+mod under;
 
 pub use answer::Answer;
 pub use answer::length;
 pub use answer::number;
 pub use answer::runs;
 pub use parameters::Parameters;
+pub use prepared::Preparation;
+pub use prepared::Prepared;
+pub use prepared::prepare;
 
 pub fn seal(
     form: usize,
@@ -23,9 +29,10 @@ pub fn seal(
 ) -> Answer
     ensures { λ r. ⌜ Seals form (now (key .entry)) (now (nonce .entry)) (now (ad .entry)) (now (message .entry)) tag (now (out .entry)) r (now (out .exit)) ⌝ }
 {
+    let known = check::known_key(key.len());
     let answer = check::seal_check(
         form,
-        key.len(),
+        known,
         nonce.len(),
         tag,
         ad.len(),
@@ -35,16 +42,10 @@ pub fn seal(
     if number(answer) != 0 {
         return answer;
     }
-    let table = field::sbox();
-    let keys = aes::expand(&table, key);
-    let nr = keys.rounds;
-    let w = keys.words;
     let tables = tables::joined();
-    let ran = passes::seal(form, &tables, &w, nr, nonce, ad, message, tag, out);
-    Answer::Done {
-        length: length(answer),
-        runs: ran,
-    }
+    let own = prepared::own_record(&tables, key, ad);
+    let made = own.key;
+    under::seal(form, &tables, made, own.runs, nonce, ad, message, tag, out)
 }
 
 pub fn open(
@@ -58,9 +59,10 @@ pub fn open(
 ) -> Answer
     ensures { λ r. ⌜ Opens form (now (key .entry)) (now (nonce .entry)) (now (ad .entry)) (now (sealed .entry)) tag (now (out .entry)) r (now (out .exit)) ⌝ }
 {
+    let known = check::known_key(key.len());
     let answer = check::open_check(
         form,
-        key.len(),
+        known,
         nonce.len(),
         tag,
         ad.len(),
@@ -70,18 +72,64 @@ pub fn open(
     if number(answer) != 0 {
         return answer;
     }
-    let table = field::sbox();
-    let keys = aes::expand(&table, key);
-    let nr = keys.rounds;
-    let w = keys.words;
     let tables = tables::joined();
-    let opening = passes::open(form, &tables, &w, nr, nonce, ad, sealed, tag, out);
-    let ran = opening.runs;
-    if opening.matches {
-        return Answer::Done {
-            length: length(answer),
-            runs: ran,
-        };
+    let own = prepared::own_record(&tables, key, ad);
+    let made = own.key;
+    under::open(form, &tables, made, own.runs, nonce, ad, sealed, tag, out)
+}
+
+pub fn seal_with(
+    form: usize,
+    key: Prepared,
+    nonce: &[u8],
+    ad: &[u8],
+    message: &[u8],
+    tag: usize,
+    out: &mut [u8],
+) -> Answer
+    ensures { λ r. ⌜ SealsWith form key (now (nonce .entry)) (now (ad .entry)) (now (message .entry)) tag (now (out .entry)) r (now (out .exit)) ⌝ }
+{
+    let known = check::known_rounds(key.rounds);
+    let answer = check::seal_check(
+        form,
+        known,
+        nonce.len(),
+        tag,
+        ad.len(),
+        message.len(),
+        out.len(),
+    );
+    if number(answer) != 0 {
+        return answer;
     }
-    Answer::Forged { runs: ran }
+    let tables = tables::joined();
+    under::seal(form, &tables, key, 0, nonce, ad, message, tag, out)
+}
+
+pub fn open_with(
+    form: usize,
+    key: Prepared,
+    nonce: &[u8],
+    ad: &[u8],
+    sealed: &[u8],
+    tag: usize,
+    out: &mut [u8],
+) -> Answer
+    ensures { λ r. ⌜ OpensWith form key (now (nonce .entry)) (now (ad .entry)) (now (sealed .entry)) tag (now (out .entry)) r (now (out .exit)) ⌝ }
+{
+    let known = check::known_rounds(key.rounds);
+    let answer = check::open_check(
+        form,
+        known,
+        nonce.len(),
+        tag,
+        ad.len(),
+        sealed.len(),
+        out.len(),
+    );
+    if number(answer) != 0 {
+        return answer;
+    }
+    let tables = tables::joined();
+    under::open(form, &tables, key, 0, nonce, ad, sealed, tag, out)
 }

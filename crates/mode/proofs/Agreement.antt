@@ -1,5 +1,6 @@
 -- The definitions computed: the nonce block, held to rows W8 to W10 of document 01 and to document 02's wish 5; and all of them over a
--- small stand-in cipher, held to what the second program gives and to how many times its cipher ran. Assumes nothing.
+-- small stand-in cipher, held to what the second program gives and to how many times its cipher ran, with the first Q that a call makes and
+-- with one that is lent. Assumes nothing.
 use mathlib.Core.Path.{_≡_, refl}
 use mathlib.Core.Bool.{Bool, true, false}
 use mathlib.Core.List.{List, [], _∷_, map, zipWith}
@@ -11,13 +12,14 @@ use Rattle.lists.specs.Table.{table, tableFrom}
 use Rattle.lists.specs.Xor.{xor}
 use Rattle.lists.specs.Zeros.{zeros}
 use Rattle.block.specs.Block.{pad, shift, double}
-use Rattle.mode.specs.Form.{formOf}
+use Rattle.mode.specs.Form.{Form, formOf}
 use Rattle.mode.specs.Masks.{doubles}
 use Rattle.mode.specs.Message.{blocks, pairsOf, even, short, sum, pairs, pairsInputs, body, bodyInputs, checksum, te}
 use Rattle.mode.specs.Data.{dataSum, sumInputs, chain, chainInputs, ta, taInputs}
 use Rattle.mode.specs.Nonce.{format}
-use Rattle.mode.specs.Sealing.{tag, sealed, sealedInputs, otr, otrInputs}
+use Rattle.mode.specs.Sealing.{tag, sealed, sealedInputs, otrFrom, fromInputs, otr, otrInputs}
 use Rattle.mode.proofs.Expected.{Row, expected}
+use Rattle.mode.proofs.Lent.{expected as lent}
 
 -- W8, W9 and W10
 pub nonces : format 16 (bytes 12 0xa0a1a2a3a4a5a6a7a8a9aaab) ∷ format 4 (bytes 12 0xa0a1a2a3a4a5a6a7a8a9aaab) ∷ format 8 (bytes 1 0xab) ∷ []
@@ -38,14 +40,21 @@ nonces-of-15 = refl
 pub standIn : List ℕ → List ℕ
 standIn b = table (λ i. (5 * getD b i 0 + 3 * getD b ((i + 1) % 16) 0 + 7 * i + 11) % 256) 16
 
--- the row, sealed, and the number of blocks handed to the cipher: byte i of the message is 7i + 3, of the data 11i + 5, of the nonce
--- 13i + 1
+-- a row's strings: byte i of the message is 7i + 3, of the data 11i + 5, of the nonce 13i + 1
+pub of-strings : (Form → List ℕ → List ℕ → ℕ → List ℕ → ℕ × List ℕ) → Row → ℕ × List ℕ
+of-strings seal (f, m, a, k, t, n, x) =
+    seal (formOf f) (table (λ i. (13 * i + 1) % 256) k) (table (λ i. (11 * i + 5) % 256) a) t (table (λ i. (7 * i + 3) % 256) m)
+
+-- the number of blocks handed to the cipher, and the row sealed
 pub computed : Row → ℕ × List ℕ
-computed (f, m, a, k, t, n, x) =
-    let nonce = table (λ i. (13 * i + 1) % 256) k in
-    let ad = table (λ i. (11 * i + 5) % 256) a in
-    let message = table (λ i. (7 * i + 3) % 256) m in
-    (length (otrInputs standIn (formOf f) nonce ad t message), otr standIn (formOf f) nonce ad t message)
+computed = of-strings λ f nonce ad t m. (length (otrInputs standIn f nonce ad t m), otr standIn f nonce ad t m)
+
+-- the same with a first Q that is lent, and is not E of the zero block: its byte i is 19i + 7
+pub computedLent : Row → ℕ × List ℕ
+computedLent = of-strings λ f nonce ad t m. (length (fromInputs standIn q f nonce ad t m), otrFrom standIn q f nonce ad t m)
+  where
+    q : List ℕ
+    q = table (λ i. (19 * i + 7) % 256) 16
 
 pub given : Row → ℕ × List ℕ
 given (f, m, a, k, t, n, x) = (n, bytes (m + t) x)
@@ -65,13 +74,17 @@ of i [] = []
 of i (row ∷ others) = keep (eqb (kind row) i) row (of i others)
 
 pub parallel-rows : map computed (of 0 expected) ≡ map given (of 0 expected)
-unfolding of computed given standIn tableFrom xor zeros pad shift double doubles blocks pairsOf even short sum pairs pairsInputs body bodyInputs checksum te dataSum sumInputs chain chainInputs ta taInputs zipWith format tag sealed sealedInputs
+unfolding of of-strings computed given standIn tableFrom xor zeros pad shift double doubles blocks pairsOf even short sum pairs pairsInputs body bodyInputs checksum te dataSum sumInputs chain chainInputs ta taInputs zipWith format tag sealed sealedInputs
 parallel-rows = refl
 
 pub serial-rows-without-data : map computed (of 1 expected) ≡ map given (of 1 expected)
-unfolding of computed given standIn tableFrom xor zeros pad shift double doubles blocks pairsOf even short sum pairs pairsInputs body bodyInputs checksum te dataSum sumInputs chain chainInputs ta taInputs zipWith format tag sealed sealedInputs
+unfolding of of-strings computed given standIn tableFrom xor zeros pad shift double doubles blocks pairsOf even short sum pairs pairsInputs body bodyInputs checksum te dataSum sumInputs chain chainInputs ta taInputs zipWith format tag sealed sealedInputs
 serial-rows-without-data = refl
 
 pub serial-rows-with-data : map computed (of 2 expected) ≡ map given (of 2 expected)
-unfolding of computed given standIn tableFrom xor zeros pad shift double doubles blocks pairsOf even short sum pairs pairsInputs body bodyInputs checksum te dataSum sumInputs chain chainInputs ta taInputs zipWith format tag sealed sealedInputs
+unfolding of of-strings computed given standIn tableFrom xor zeros pad shift double doubles blocks pairsOf even short sum pairs pairsInputs body bodyInputs checksum te dataSum sumInputs chain chainInputs ta taInputs zipWith format tag sealed sealedInputs
 serial-rows-with-data = refl
+
+pub lent-rows : map computedLent lent ≡ map given lent
+unfolding of-strings computedLent given standIn tableFrom xor zeros pad shift double doubles blocks pairsOf even short sum pairs pairsInputs body bodyInputs checksum te dataSum sumInputs chain chainInputs ta taInputs zipWith format tag sealed sealedInputs
+lent-rows = refl

@@ -106,14 +106,14 @@ module _ (E : List ℕ → List ℕ) (e : IsCipher E) where
         (xor-sixteen (d .xi n (b ∷ bs)) (pad x) (h .xi n (b ∷ bs) (omega arith))
         (length-pad x (omega (arith, length-drop (16 * n) (b ∷ bs))))))
 
-  pub length-dataTag : (f : Form) (a : List ℕ) → length (dataTag E f a) ≡ 16
-  length-dataTag f a = length-ta (dataPass E (E (zeros 16)) f) (are-blocks (E (zeros 16)) (e (zeros 16) (length-zeros 16)) f) a
+  pub length-dataTag : (q : List ℕ) → length q ≡ 16 → (f : Form) (a : List ℕ) → length (dataTag E q f a) ≡ 16
+  length-dataTag q h f a = length-ta (dataPass E q f) (are-blocks q h f) a
 
-  -- the first Q matters only where there is data
-  pub first-q-with-data : (f : Form) (q p a : List ℕ) → (1 ≤ length a → q ≡ p) → ta E (dataPass E q f) a ≡ ta E (dataPass E p f) a
-  unfolding ta
-  first-q-with-data f q p [] h = refl
-  first-q-with-data f q p (b ∷ bs) h = ap (λ (x : List ℕ). ta E (dataPass E x f) (b ∷ bs)) (h (omega arith))
+-- the same of whatever q there is, where whatever E gives has 16 bytes
+pub ciphered-dataTag : (E : List ℕ → List ℕ) → ((x : List ℕ) → length (E x) ≡ 16) → (q : List ℕ) (f : Form) (a : List ℕ) → length (dataTag E q f a) ≡ 16
+unfolding ta
+ciphered-dataTag E e q f [] = length-zeros 16
+ciphered-dataTag E e q f (b ∷ bs) = e _
 
 -- ---- TA as it was before there was a form: the parallel pass, with its Q within
 pub dataSumWas : (List ℕ → List ℕ) → ℕ → List ℕ → List ℕ
@@ -133,7 +133,7 @@ unfolding dataSum dataSumWas
 sum-as-it-was E zero a = refl
 sum-as-it-was E (suc n) a = ap (λ (s : List ℕ). xor s (E (xor (doubles n (E (zeros 16))) (block a (16 * n))))) (sum-as-it-was E n a)
 
-pub ta-as-it-was : (E : List ℕ → List ℕ) (a : List ℕ) → dataTag E parallel a ≡ taWas E a
+pub ta-as-it-was : (E : List ℕ → List ℕ) (a : List ℕ) → dataTag E (E (zeros 16)) parallel a ≡ taWas E a
 unfolding ta taWas
 ta-as-it-was E [] = refl
 ta-as-it-was E (b ∷ bs) =

@@ -1,5 +1,5 @@
--- The inputs are all that is handed to the cipher: two ciphers that agree on them seal to the same, and open to the same. So no run
--- is left out of a list. Assumes nothing.
+-- The inputs are all that is handed to the cipher: two ciphers that agree on them seal to the same, and open to the same, whether the
+-- first Q is lent or a call's own. So no run is left out of a list. Assumes nothing.
 use mathlib.Core.Path.{_≡_, refl, sym, ap, ap₂, subst, _∙_}
 use mathlib.Core.Bool.{Bool, true, false}
 use mathlib.Core.List.{List, [], _∷_, _++_}
@@ -9,23 +9,29 @@ use lib.ListN.{length, take, drop}
 use Rattle.lists.specs.Same.{same}
 use Rattle.lists.specs.Xor.{xor}
 use Rattle.lists.specs.Zeros.{zeros}
+use Rattle.lists.proofs.Zeros.{length-zeros}
 use Rattle.block.specs.Block.{pad}
 use Rattle.mode.specs.Form.{Form, parallel, serial}
 use Rattle.mode.specs.Masks.{Masks, IsCipher, AreMasks, doubles, third}
 use Rattle.mode.specs.Message.{blocks, pairsOf, even, block, rest, short, sum, base, final, oneInputs, half, pair, pairInputs, z, last, ending, endingInputs, endSum, pairs, pairsInputs, l, r, body, bodyInputs, checksum, te, teInput}
-use Rattle.mode.specs.Data.{dataSum, sumInputs, chain, chainInputs, dataPass, dataLast, ta, taInputs}
-use Rattle.mode.specs.Sealing.{tag, sealed, sealedInputs, firstMask, intoTag, dataTag, dataInputs, masks, added, otr, callInputs, otrInputs}
+use Rattle.mode.specs.Data.{dataSum, sumInputs, chain, chainInputs, dataPass, dataLast, ta, taInputs, qInputs, withData}
+use Rattle.mode.specs.Sealing.{tag, sealed, sealedInputs, firstMask, intoTag, dataTag, masks, added, otrFrom, callInputs, fromInputs, otr, otrInputs}
 use Rattle.mode.specs.Opening.{Opened, Allowed}
-use Rattle.mode.specs.Undoing.{swapped, first, unending, unendingInputs, unbody, unbodyInputs, undoneInputs, answer, opened, found, foundInputs}
+use Rattle.mode.specs.Undoing.{swapped, first, unending, unendingInputs, unbody, unbodyInputs, undoneInputs, answer, opened, foundFrom, foundFromInputs, found, foundInputs}
 use Rattle.mode.proofs.Ends.{Remains, first-undone}
 use Rattle.mode.proofs.Walk.{remains, length-unbody}
 use Rattle.mode.proofs.Parts.{rest-undone}
+use Rattle.mode.proofs.Data.{length-dataTag}
 use Rattle.mode.proofs.Third.{otr-masks, otr-opens, otr-one-answer}
 
 -- E and F give the same for each block of a list
 abbrev pub Agree : (List ℕ → List ℕ) → (List ℕ → List ℕ) → List (List ℕ) → Type 0
 Agree E F [] = Unit {0}
 Agree E F (x ∷ xs) = (E x ≡ F x) × Agree E F xs
+
+-- TA from the first Q of a call's own
+own-long : (E : List ℕ → List ℕ) → IsCipher E → (f : Form) (ad : List ℕ) → length (dataTag E (E (zeros 16)) f ad) ≡ 16
+own-long E e f ad = length-dataTag E e (E (zeros 16)) (e (zeros 16) (length-zeros 16)) f ad
 
 module _ (E F : List ℕ → List ℕ) where
   front : (xs ys : List (List ℕ)) → Agree E F (xs ++ ys) → Agree E F xs
@@ -120,7 +126,7 @@ module _ (E F : List ℕ → List ℕ) where
   mask-same q parallel n s = refl
   mask-same q serial n s = refl
 
-  ta-same : (q : List ℕ) (f : Form) (a : List ℕ) → Agree E F (taInputs E (dataPass E q f) a) → ta E (dataPass E q f) a ≡ ta F (dataPass F q f) a
+  ta-same : (q : List ℕ) (f : Form) (a : List ℕ) → Agree E F (taInputs E (dataPass E q f) a) → dataTag E q f a ≡ dataTag F q f a
   unfolding ta taInputs
   ta-same q f [] h = refl
   ta-same q f (b ∷ bs) h =
@@ -132,27 +138,11 @@ module _ (E F : List ℕ → List ℕ) where
       back (d .inputs n a) (here ∷ []) h .0
       ∙ ap₂ (λ (k y : List ℕ). F (xor k (xor y (pad x)))) (mask-same q f n _) (xi-same q f n a (front (d .inputs n a) (here ∷ []) h))
 
-  data-same : (f : Form) (ad : List ℕ) → Agree E F (dataInputs E f ad) → dataTag E f ad ≡ dataTag F f ad
-  unfolding ta taInputs
-  data-same f [] h = refl
-  data-same f (b ∷ bs) h = ta-same (E (zeros 16)) f (b ∷ bs) (h .1) ∙ ap (λ (q : List ℕ). ta F (dataPass F q f) (b ∷ bs)) (h .0)
-
-  -- ---- a call of v3.1 in the form f
-  module _ (f : Form) (nonce ad : List ℕ) (t : ℕ) (h : Agree E F (callInputs E f nonce ad t)) where
-    masks-same : masks E f nonce ad t ≡ masks F f nonce ad t
-    masks-same = ap₂ (λ (v a : List ℕ). third (firstMask f v a)) (h .0) (data-same f ad (h .1))
-
-    added-same : added E f nonce ad t ≡ added F f nonce ad t
-    added-same = ap (intoTag f) (data-same f ad (h .1))
-
-  -- sealing
-  pub otr-same : (f : Form) (nonce ad : List ℕ) (t : ℕ) (m : List ℕ) → Agree E F (otrInputs E f nonce ad t m) → otr E f nonce ad t m ≡ otr F f nonce ad t m
-  otr-same f nonce ad t m h =
-      let k = masks E f nonce ad t in
-      let hc = front (callInputs E f nonce ad t) (sealedInputs E k m) h in
-      sealed-same k (added E f nonce ad t) t m (back (callInputs E f nonce ad t) (sealedInputs E k m) h)
-      ∙ ap (λ (j : Masks). sealed F j (added E f nonce ad t) t m) (masks-same f nonce ad t hc)
-      ∙ ap (λ (a : List ℕ). sealed F (masks F f nonce ad t) a t m) (added-same f nonce ad t hc)
+  own-same : (f : Form) (ad : List ℕ) → Agree E F (qInputs (withData ad)) → Agree E F (taInputs E (dataPass E (E (zeros 16)) f) ad)
+      → dataTag E (E (zeros 16)) f ad ≡ dataTag F (F (zeros 16)) f ad
+  unfolding ta
+  own-same f [] hq h = refl
+  own-same f (b ∷ bs) hq h = ta-same (E (zeros 16)) f (b ∷ bs) h ∙ ap (λ (q : List ℕ). dataTag F q f (b ∷ bs)) (hq .0)
 
   -- ---- opening
   unending-same : (t : Bool) (l r x : List ℕ) → Agree E F (unendingInputs E t l r x) → unending E t l r x ≡ unending F t l r x
@@ -217,21 +207,72 @@ module _ (E F : List ℕ → List ℕ) where
       let c = take (length x - t) x in
       ap₂ (λ (y p : List ℕ). answer (same (take t (xor y a)) (drop (length x - t) x)) p) (te-undone-same e k s c h) (unbody-same e k s c h)
 
-  pub found-same : IsCipher E → (f : Form) (nonce ad : List ℕ) (t : ℕ) → length nonce ≤ 15 → (x : List ℕ) → Agree E F (foundInputs E f nonce ad t x)
-      → found E f nonce ad t x ≡ found F f nonce ad t x
-  found-same e f nonce ad t hn x h =
-      let k = masks E f nonce ad t in
-      let c = take (length x - t) x in
-      let hc = front (callInputs E f nonce ad t) (undoneInputs E k c) h in
-      opened-same e k (otr-masks E e f nonce ad t hn) (added E f nonce ad t) t x (back (callInputs E f nonce ad t) (undoneInputs E k c) h)
-      ∙ ap (λ (j : Masks). opened F j (added E f nonce ad t) t x) (masks-same f nonce ad t hc)
-      ∙ ap (λ (a : List ℕ). opened F (masks F f nonce ad t) a t x) (added-same f nonce ad t hc)
+  -- ---- a call of v3.1 in the form f, from the first Q p under E and q under F, of which no more is asked than that TA comes to the same
+  module _ (p q : List ℕ) (f : Form) (nonce ad : List ℕ) (t : ℕ) (tas : Agree E F (taInputs E (dataPass E p f) ad) → dataTag E p f ad ≡ dataTag F q f ad) where
+    module _ (h : Agree E F (callInputs E p f nonce ad t)) where
+      masks-same : masks E p f nonce ad t ≡ masks F q f nonce ad t
+      masks-same = ap₂ (λ (v a : List ℕ). third (firstMask f v a)) (h .0) (tas (h .1))
 
-  -- said by sealing alone: what opening may answer under E and what it may under F
-  pub allowed-same : IsCipher E → IsCipher F → (f : Form) (nonce ad : List ℕ) (t : ℕ) → length nonce ≤ 15 → t ≤ 16 → (x : List ℕ) → t ≤ length x
-      → Agree E F (foundInputs E f nonce ad t x)
-      → (o p : Opened) → Allowed (otr E f nonce ad t) x o → Allowed (otr F f nonce ad t) x p → o ≡ p
-  allowed-same e g f nonce ad t hn ht x long h o p q w =
-      otr-one-answer E e f nonce ad t hn ht x o (found E f nonce ad t x) q (otr-opens E e f nonce ad t hn ht x long)
-      ∙ found-same e f nonce ad t hn x h
-      ∙ otr-one-answer F g f nonce ad t hn ht x (found F f nonce ad t x) p (otr-opens F g f nonce ad t hn ht x long) w
+      added-same : added E p f nonce ad t ≡ added F q f nonce ad t
+      added-same = ap (intoTag f) (tas (h .1))
+
+    sealing-same : (m : List ℕ) → Agree E F (fromInputs E p f nonce ad t m) → otrFrom E p f nonce ad t m ≡ otrFrom F q f nonce ad t m
+    sealing-same m h =
+        let k = masks E p f nonce ad t in
+        let hc = front (callInputs E p f nonce ad t) (sealedInputs E k m) h in
+        sealed-same k (added E p f nonce ad t) t m (back (callInputs E p f nonce ad t) (sealedInputs E k m) h)
+        ∙ ap (λ (j : Masks). sealed F j (added E p f nonce ad t) t m) (masks-same hc)
+        ∙ ap (λ (a : List ℕ). sealed F (masks F q f nonce ad t) a t m) (added-same hc)
+
+    module _ (e : IsCipher E) (hp : length (dataTag E p f ad) ≡ 16) (hn : length nonce ≤ 15) (x : List ℕ) (h : Agree E F (foundFromInputs E p f nonce ad t x)) where
+      finding-same : foundFrom E p f nonce ad t x ≡ foundFrom F q f nonce ad t x
+      finding-same =
+          let k = masks E p f nonce ad t in
+          let c = take (length x - t) x in
+          let hc = front (callInputs E p f nonce ad t) (undoneInputs E k c) h in
+          opened-same e k (otr-masks E e p f nonce ad t hp hn) (added E p f nonce ad t) t x (back (callInputs E p f nonce ad t) (undoneInputs E k c) h)
+          ∙ ap (λ (j : Masks). opened F j (added E p f nonce ad t) t x) (masks-same hc)
+          ∙ ap (λ (a : List ℕ). opened F (masks F q f nonce ad t) a t x) (added-same hc)
+
+      -- said by sealing alone: what opening may answer under E and what it may under F
+      allowing-same : IsCipher F → length (dataTag F q f ad) ≡ 16 → t ≤ 16 → t ≤ length x
+          → (o r : Opened) → Allowed (otrFrom E p f nonce ad t) x o → Allowed (otrFrom F q f nonce ad t) x r → o ≡ r
+      allowing-same g hq ht long o r allowed allowed′ =
+          otr-one-answer E e p f nonce ad t hp hn ht x o (foundFrom E p f nonce ad t x) allowed (otr-opens E e p f nonce ad t hp hn ht x long)
+          ∙ finding-same
+          ∙ otr-one-answer F g q f nonce ad t hq hn ht x (foundFrom F q f nonce ad t x) r (otr-opens F g q f nonce ad t hq hn ht x long) allowed′
+
+  -- ---- with a first Q that is lent, the same to both
+  module _ (q : List ℕ) (f : Form) (nonce ad : List ℕ) (t : ℕ) where
+    pub lent-same : (m : List ℕ) → Agree E F (fromInputs E q f nonce ad t m) → otrFrom E q f nonce ad t m ≡ otrFrom F q f nonce ad t m
+    lent-same = sealing-same q q f nonce ad t (ta-same q f ad)
+
+    pub lent-found-same : IsCipher E → length q ≡ 16 → length nonce ≤ 15 → (x : List ℕ) → Agree E F (foundFromInputs E q f nonce ad t x)
+        → foundFrom E q f nonce ad t x ≡ foundFrom F q f nonce ad t x
+    lent-found-same e hq = finding-same q q f nonce ad t (ta-same q f ad) e (length-dataTag E e q hq f ad)
+
+    pub lent-allowed-same : IsCipher E → IsCipher F → length q ≡ 16 → length nonce ≤ 15 → t ≤ 16 → (x : List ℕ) → t ≤ length x
+        → Agree E F (foundFromInputs E q f nonce ad t x)
+        → (o r : Opened) → Allowed (otrFrom E q f nonce ad t) x o → Allowed (otrFrom F q f nonce ad t) x r → o ≡ r
+    lent-allowed-same e g hq hn ht x long h =
+        allowing-same q q f nonce ad t (ta-same q f ad) e (length-dataTag E e q hq f ad) hn x h g (length-dataTag F g q hq f ad) ht long
+
+  -- ---- with the first Q of a call's own, E of the zero block
+  module _ (f : Form) (nonce ad : List ℕ) (t : ℕ) where
+    pub otr-same : (m : List ℕ) → Agree E F (otrInputs E f nonce ad t m) → otr E f nonce ad t m ≡ otr F f nonce ad t m
+    otr-same m h =
+        let others = fromInputs E (E (zeros 16)) f nonce ad t m in
+        sealing-same (E (zeros 16)) (F (zeros 16)) f nonce ad t (own-same f ad (front (qInputs (withData ad)) others h)) m (back (qInputs (withData ad)) others h)
+
+    pub found-same : IsCipher E → length nonce ≤ 15 → (x : List ℕ) → Agree E F (foundInputs E f nonce ad t x) → found E f nonce ad t x ≡ found F f nonce ad t x
+    found-same e hn x h =
+        let others = foundFromInputs E (E (zeros 16)) f nonce ad t x in
+        finding-same (E (zeros 16)) (F (zeros 16)) f nonce ad t (own-same f ad (front (qInputs (withData ad)) others h)) e (own-long E e f ad) hn x
+        (back (qInputs (withData ad)) others h)
+
+    pub allowed-same : IsCipher E → IsCipher F → length nonce ≤ 15 → t ≤ 16 → (x : List ℕ) → t ≤ length x → Agree E F (foundInputs E f nonce ad t x)
+        → (o r : Opened) → Allowed (otr E f nonce ad t) x o → Allowed (otr F f nonce ad t) x r → o ≡ r
+    allowed-same e g hn ht x long h =
+        let others = foundFromInputs E (E (zeros 16)) f nonce ad t x in
+        allowing-same (E (zeros 16)) (F (zeros 16)) f nonce ad t (own-same f ad (front (qInputs (withData ad)) others h)) e (own-long E e f ad) hn x
+        (back (qInputs (withData ad)) others h) g (own-long F g f ad) ht long

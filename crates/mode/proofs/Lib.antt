@@ -1,4 +1,5 @@
 pub mod Expected
+pub mod Lent
 pub mod Agreement
 pub mod Counts
 pub mod Pairs
@@ -12,4 +13,5 @@ pub mod Form
 pub mod Data
 pub mod Third
 pub mod Runs
+pub mod Own
 pub mod Inputs

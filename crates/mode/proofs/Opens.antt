@@ -6,16 +6,18 @@ use mathlib.Core.List.{List, _++_}
 use Prim.Native.Nat.{ℕ, _+_, _-_, _≤_}
 use native.Mathlib.Omega.{arith}
 use lib.ListN.{length, take, drop, length-append, take-append-drop}
-use lib.Seq.{take-at, drop-at}
+use lib.Seq.{take-at, take-all, drop-at}
 use Rattle.lists.specs.Same.{same}
+use Rattle.lists.specs.Xor.{xor}
 use Rattle.lists.proofs.Same.{same-true, same-false}
+use Rattle.lists.proofs.Xor.{length-xor, xor-comm, xor-cancel}
 use Rattle.mode.specs.Masks.{Masks, IsCipher, AreMasks}
-use Rattle.mode.specs.Message.{body}
+use Rattle.mode.specs.Message.{body, te}
 use Rattle.mode.specs.Sealing.{tag, sealed}
 use Rattle.mode.specs.Opening.{Opened, accepted, refused, Allowed}
 use Rattle.mode.specs.Undoing.{unbody, answer, plain, opened}
 use Rattle.mode.proofs.Walk.{length-body, body-undone, unbody-sealed}
-use Rattle.mode.proofs.Tag.{length-tag}
+use Rattle.mode.proofs.Tag.{length-te, length-tag}
 
 -- either exactly one message seals to the string x, and the answer o is that one; or none does, and the answer is to refuse
 abbrev pub OneOrNone : (List ℕ → List ℕ) → List ℕ → Opened → Type 0
@@ -88,3 +90,15 @@ module _ (E : List ℕ → List ℕ) (e : IsCipher E) (k : Masks) (s : AreMasks 
       go : (o : Opened) → Allowed (sealed E k a t) x o → OneOrNone (sealed E k a t) x o
       go (accepted m) q = inl (m, q, λ n r. injective n m (r ∙ sym q), refl)
       go refused q = inr (q, refl)
+
+-- a tag of 16 bytes shows what goes into it
+pub shows-added : (E : List ℕ → List ℕ) (e : IsCipher E) (k : Masks) (s : AreMasks k) (a b : List ℕ) → length a ≡ 16 → length b ≡ 16 → (m : List ℕ)
+    → sealed E k a 16 m ≡ sealed E k b 16 m → a ≡ b
+unfolding tag
+shows-added E e k s a b ha hb m h =
+    let all : 16 ≤ 16 = omega arith in
+    let te-long : length (te E k m) ≡ 16 = length-te E e k s m in
+    let tags = sym (back-is E e k s a ha 16 all m) ∙ ap (λ (x : List ℕ). drop (length x - 16) x) h ∙ back-is E e k s b hb 16 all m in
+    let whole : (x : List ℕ) → take 16 (xor (te E k m) x) ≡ xor x (te E k m) =
+    λ x. take-all 16 (xor (te E k m) x) (omega (arith, length-xor (te E k m) x)) ∙ xor-comm (te E k m) x in
+    sym (xor-cancel a (te E k m) (omega arith)) ∙ ap (λ (x : List ℕ). xor x (te E k m)) (sym (whole a) ∙ tags ∙ whole b) ∙ xor-cancel b (te E k m) (omega arith)

@@ -1,5 +1,5 @@
 -- How many blocks each step hands to the cipher: it goes by lengths alone, and in both forms it is the same number. Assumes nothing.
-use mathlib.Core.Path.{_≡_, refl, ap, ap₂, _∙_}
+use mathlib.Core.Path.{_≡_, refl, ap, _∙_}
 use mathlib.Core.Bool.{Bool, true, false}
 use mathlib.Core.List.{List, [], _∷_, _++_}
 use Prim.Native.Nat.{ℕ, zero, suc, _+_, _-_, _*_, _/_, _≤_, min}
@@ -8,13 +8,12 @@ use native.Mathlib.Omega.{arith}
 use lib.ListN.{length, take, length-append, length-drop}
 use lib.Seq.{length-take-le}
 use Rattle.lists.specs.Xor.{xor}
-use Rattle.lists.specs.Zeros.{zeros}
 use Rattle.mode.specs.Form.{Form, parallel, serial}
 use Rattle.mode.specs.Masks.{Masks, doubles}
 use Rattle.mode.specs.Message.{blocks, pairsOf, even, block, rest, oneInputs, pairInputs, endingInputs, pairsInputs, l, r, bodyInputs, teInput}
-use Rattle.mode.specs.Data.{DataPass, sumInputs, chain, chainInputs, dataPass, taInputs, qInputs}
-use Rattle.mode.specs.Sealing.{sealedInputs, dataInputs, masks, callInputs, otrInputs}
-use Rattle.mode.specs.Undoing.{swapped, unendingInputs, unbody, unbodyInputs, undoneInputs, foundInputs}
+use Rattle.mode.specs.Data.{DataPass, sumInputs, chain, chainInputs, dataPass, taInputs, qInputs, withData}
+use Rattle.mode.specs.Sealing.{sealedInputs, masks, callInputs, fromInputs}
+use Rattle.mode.specs.Undoing.{swapped, unendingInputs, unbody, unbodyInputs, undoneInputs, foundFromInputs}
 use Rattle.mode.proofs.Counts.{pairs-are}
 use Rattle.mode.proofs.Ends.{Remains}
 use Rattle.mode.proofs.Walk.{remains}
@@ -117,30 +116,25 @@ length-taInputs E q f (b ∷ bs) =
     let is : n + 1 ≡ (length (b ∷ bs) + 15) / 16 = omega arith in
     taInputs-some E (dataPass E q f) (b ∷ bs) n (omega arith) refl ∙ ap (λ (k : ℕ). k + 1) (length-inputs E q f n (b ∷ bs)) ∙ is
 
-pub length-qInputs : (a : List ℕ) → length (qInputs a) ≡ min 1 (length a)
+pub length-qInputs : (a : List ℕ) → length (qInputs (withData a)) ≡ min 1 (length a)
 length-qInputs [] = refl
 length-qInputs (b ∷ bs) = omega arith
 
--- ---- a call, in either form
-module _ (E : List ℕ → List ℕ) (f : Form) (nonce ad : List ℕ) (t : ℕ) where
-  pub length-callInputs : length (callInputs E f nonce ad t) ≡ 1 + (min 1 (length ad) + (length ad + 15) / 16)
-  length-callInputs =
-      let after : length (dataInputs E f ad) ≡ min 1 (length ad) + (length ad + 15) / 16 =
-      length-append (qInputs ad) (taInputs E (dataPass E (E (zeros 16)) f) ad)
-      ∙ ap₂ _+_ (length-qInputs ad) (length-taInputs E (E (zeros 16)) f ad) in
-      omega (arith, after)
+-- ---- a call, in either form, with its first Q at hand
+module _ (E : List ℕ → List ℕ) (q : List ℕ) (f : Form) (nonce ad : List ℕ) (t : ℕ) where
+  pub length-callInputs : length (callInputs E q f nonce ad t) ≡ 1 + (length ad + 15) / 16
+  length-callInputs = omega (arith, length-taInputs E q f ad)
 
   -- nonce block and TE, the message's blocks, the data's
-  pub length-otrInputs : (m : List ℕ) → length (otrInputs E f nonce ad t m) ≡ 2 + (length m + 15) / 16 + (min 1 (length ad) + (length ad + 15) / 16)
-  length-otrInputs m =
-      let k = masks E f nonce ad t in
-      omega (arith, length-append (callInputs E f nonce ad t) (sealedInputs E k m), length-callInputs, length-sealedInputs E k m)
+  pub length-fromInputs : (m : List ℕ) → length (fromInputs E q f nonce ad t m) ≡ 2 + (length m + 15) / 16 + (length ad + 15) / 16
+  length-fromInputs m =
+      let k = masks E q f nonce ad t in
+      omega (arith, length-append (callInputs E q f nonce ad t) (sealedInputs E k m), length-callInputs, length-sealedInputs E k m)
 
   -- the same of the ciphertext
-  pub length-foundInputs : (s : List ℕ)
-      → length (foundInputs E f nonce ad t s) ≡ 2 + (length s - t + 15) / 16 + (min 1 (length ad) + (length ad + 15) / 16)
-  length-foundInputs s =
-      let k = masks E f nonce ad t in
+  pub length-foundFromInputs : (s : List ℕ) → length (foundFromInputs E q f nonce ad t s) ≡ 2 + (length s - t + 15) / 16 + (length ad + 15) / 16
+  length-foundFromInputs s =
+      let k = masks E q f nonce ad t in
       let c = take (length s - t) s in
       let long : length c ≡ length s - t = length-take-le (length s - t) s (omega arith) in
-      omega (arith, long, length-append (callInputs E f nonce ad t) (undoneInputs E k c), length-callInputs, length-undoneInputs E k c)
+      omega (arith, long, length-append (callInputs E q f nonce ad t) (undoneInputs E k c), length-callInputs, length-undoneInputs E k c)

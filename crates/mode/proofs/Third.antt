@@ -1,12 +1,12 @@
--- AES-OTR v3.1 in both forms, over any cipher: its masks are masks, what goes into its tag has 16 bytes, and so every theorem of the
--- mode holds for it. Assumes nothing.
+-- AES-OTR v3.1 in both forms, over any cipher E and any first Q, q: its masks are masks, what goes into its tag has 16 bytes, and so every
+-- theorem of the mode holds for it. Of q no more is asked than that TA has 16 bytes, as it has where q has (`Data`, `length-dataTag`).
+-- Assumes nothing.
 use mathlib.Core.Path.{_≡_, refl, ap}
 use mathlib.Core.List.{List, []}
 use Prim.Native.Nat.{ℕ, _+_, _≤_}
 use native.Mathlib.Omega.{arith}
 use lib.ListN.{length, take}
 use Rattle.lists.specs.Xor.{xor}
-use Rattle.lists.specs.Zeros.{zeros}
 use Rattle.lists.proofs.Zeros.{length-zeros, xor-zeros}
 use Rattle.block.specs.Block.{double, triple}
 use Rattle.block.proofs.Doubling.{length-double, length-triple, length-seven}
@@ -15,10 +15,10 @@ use Rattle.mode.specs.Masks.{Masks, IsCipher, AreMasks, doubles, doubled
 use Rattle.mode.specs.Message.{body, te}
 use Rattle.mode.specs.Data.{ta}
 use Rattle.mode.specs.Nonce.{format}
-use Rattle.mode.specs.Sealing.{tag, firstMask, intoTag, dataTag, u, masks, added, otr}
+use Rattle.mode.specs.Sealing.{tag, firstMask, intoTag, dataTag, u, masks, added, otrFrom}
 use Rattle.mode.specs.Opening.{Opened, accepted, Allowed}
-use Rattle.mode.specs.Undoing.{unbody, found}
-use Rattle.mode.proofs.Data.{length-doubles, length-dataTag}
+use Rattle.mode.specs.Undoing.{unbody, foundFrom}
+use Rattle.mode.proofs.Data.{length-doubles}
 use Rattle.mode.proofs.Format.{length-format}
 use Rattle.mode.proofs.Tag.{xor-sixteen}
 use Rattle.mode.proofs.Walk as Walk
@@ -51,42 +51,42 @@ abbrev pub doublings : Form → ℕ
 doublings parallel = 0
 doublings serial = 1
 
-pub without-data : (E : List ℕ → List ℕ) (f : Form) (v : List ℕ) → length v ≡ 16 → firstMask f v (dataTag E f []) ≡ doubles (doublings f) v
+pub without-data : (E : List ℕ → List ℕ) (q : List ℕ) (f : Form) (v : List ℕ) → length v ≡ 16 → firstMask f v (dataTag E q f []) ≡ doubles (doublings f) v
 unfolding ta doubles
-without-data E parallel v h = refl
-without-data E serial v h = ap double (xor-zeros v 16 (omega arith))
+without-data E q parallel v h = refl
+without-data E q serial v h = ap double (xor-zeros v 16 (omega arith))
 
-module _ (E : List ℕ → List ℕ) (e : IsCipher E) (f : Form) (nonce ad : List ℕ) (t : ℕ) where
-  pub otr-masks : length nonce ≤ 15 → AreMasks (masks E f nonce ad t)
+module _ (E : List ℕ → List ℕ) (e : IsCipher E) (q : List ℕ) (f : Form) (nonce ad : List ℕ) (t : ℕ) (h : length (dataTag E q f ad) ≡ 16) where
+  pub otr-masks : length nonce ≤ 15 → AreMasks (masks E q f nonce ad t)
   otr-masks hn =
       let v = E (format t nonce) in
-      third-masks (u E f nonce ad t)
-      (length-firstMask f v (dataTag E f ad) (e (format t nonce) (length-format t nonce hn)) (length-dataTag E e f ad))
+      third-masks (u E q f nonce ad t) (length-firstMask f v (dataTag E q f ad) (e (format t nonce) (length-format t nonce hn)) h)
 
-  pub length-added : length (added E f nonce ad t) ≡ 16
-  length-added = length-intoTag f (dataTag E f ad) (length-dataTag E e f ad)
+  pub length-added : length (added E q f nonce ad t) ≡ 16
+  length-added = length-intoTag f (dataTag E q f ad) h
 
 -- the serial tag is the first t bytes of TE alone (000, Fig. 3, OTR-E, line 4)
-pub serial-tag : (E : List ℕ → List ℕ) → IsCipher E → (nonce ad : List ℕ) (t : ℕ) → length nonce ≤ 15 → (m : List ℕ)
-    → tag E (masks E serial nonce ad t) (added E serial nonce ad t) t m ≡ take t (te E (masks E serial nonce ad t) m)
+pub serial-tag : (E : List ℕ → List ℕ) → IsCipher E → (q nonce ad : List ℕ) (t : ℕ) → length (dataTag E q serial ad) ≡ 16 → length nonce ≤ 15 → (m : List ℕ)
+    → tag E (masks E q serial nonce ad t) (added E q serial nonce ad t) t m ≡ take t (te E (masks E q serial nonce ad t) m)
 unfolding tag
-serial-tag E e nonce ad t hn m =
-    let k = masks E serial nonce ad t in
-    ap (take t) (xor-zeros (te E k m) 16 (omega (arith, Tag.length-te E e k (otr-masks E e serial nonce ad t hn) m)))
+serial-tag E e q nonce ad t h hn m =
+    let k = masks E q serial nonce ad t in
+    ap (take t) (xor-zeros (te E k m) 16 (omega (arith, Tag.length-te E e k (otr-masks E e q serial nonce ad t h hn) m)))
 
 -- ---- the theorems, for v3.1 in the form f
-module _ (E : List ℕ → List ℕ) (e : IsCipher E) (f : Form) (nonce ad : List ℕ) (t : ℕ) (hn : length nonce ≤ 15) (ht : t ≤ 16) where
+module _ (E : List ℕ → List ℕ) (e : IsCipher E) (q : List ℕ) (f : Form) (nonce ad : List ℕ) (t : ℕ) (h : length (dataTag E q f ad) ≡ 16)
+    (hn : length nonce ≤ 15) (ht : t ≤ 16) where
   abbrev k : Masks
-  k = masks E f nonce ad t
+  k = masks E q f nonce ad t
 
   abbrev a : List ℕ
-  a = added E f nonce ad t
+  a = added E q f nonce ad t
 
   s : AreMasks k
-  s = otr-masks E e f nonce ad t hn
+  s = otr-masks E e q f nonce ad t h hn
 
   ha : length a ≡ 16
-  ha = length-added E e f nonce ad t
+  ha = length-added E e q f nonce ad t h
 
   -- lengths: the ciphertext is as long as the message, the tag has t bytes, and so the whole
   pub otr-length-body : (m : List ℕ) → length (body E k m) ≡ length m
@@ -95,7 +95,7 @@ module _ (E : List ℕ → List ℕ) (e : IsCipher E) (f : Form) (nonce ad : Lis
   pub otr-length-tag : (m : List ℕ) → length (tag E k a t m) ≡ t
   otr-length-tag = Tag.length-tag E e k s a t ha ht
 
-  pub length-otr : (m : List ℕ) → length (otr E f nonce ad t m) ≡ length m + t
+  pub length-otr : (m : List ℕ) → length (otrFrom E q f nonce ad t m) ≡ length m + t
   length-otr = Opens.length-sealed E e k s a ha t ht
 
   -- undoing after sealing, and sealing after undoing
@@ -106,17 +106,17 @@ module _ (E : List ℕ → List ℕ) (e : IsCipher E) (f : Form) (nonce ad : Lis
   otr-sealed = Walk.unbody-sealed E e k s
 
   -- opening
-  pub otr-injective : (m n : List ℕ) → otr E f nonce ad t m ≡ otr E f nonce ad t n → m ≡ n
+  pub otr-injective : (m n : List ℕ) → otrFrom E q f nonce ad t m ≡ otrFrom E q f nonce ad t n → m ≡ n
   otr-injective = Opens.injective E e k s a ha t ht
 
-  pub otr-opens : (x : List ℕ) → t ≤ length x → Allowed (otr E f nonce ad t) x (found E f nonce ad t x)
+  pub otr-opens : (x : List ℕ) → t ≤ length x → Allowed (otrFrom E q f nonce ad t) x (foundFrom E q f nonce ad t x)
   otr-opens = Opens.opens E e k s a ha t ht
 
-  pub otr-opening : (x : List ℕ) → t ≤ length x → Opens.OneOrNone (otr E f nonce ad t) x (found E f nonce ad t x)
+  pub otr-opening : (x : List ℕ) → t ≤ length x → Opens.OneOrNone (otrFrom E q f nonce ad t) x (foundFrom E q f nonce ad t x)
   otr-opening = Opens.opening E e k s a ha t ht
 
-  pub otr-one-answer : (x : List ℕ) (o p : Opened) → Allowed (otr E f nonce ad t) x o → Allowed (otr E f nonce ad t) x p → o ≡ p
+  pub otr-one-answer : (x : List ℕ) (o p : Opened) → Allowed (otrFrom E q f nonce ad t) x o → Allowed (otrFrom E q f nonce ad t) x p → o ≡ p
   otr-one-answer = Opens.one-answer E e k s a ha t ht
 
-  pub otr-round-trip : (m : List ℕ) → found E f nonce ad t (otr E f nonce ad t m) ≡ accepted m
+  pub otr-round-trip : (m : List ℕ) → foundFrom E q f nonce ad t (otrFrom E q f nonce ad t m) ≡ accepted m
   otr-round-trip = Opens.round-trip E e k s a ha t ht

@@ -1,6 +1,6 @@
 -- The associated data pass in both forms (document 01; source document 000, Fig. 1, AF, and Fig. 3, AF-S), over any cipher E and any
--- first Q, here q; in both figures, line 2, it is E(0ⁿ). Beside what a step gives stand its inputs, the blocks that it hands to the
--- cipher, as in the message pass.
+-- first Q, here q; in both figures, line 2, it is E(0ⁿ), and in a prepared key what that holds (document 02, wish 9). Beside what a
+-- step gives stand its inputs, the blocks that it hands to the cipher, as in the message pass.
 use mathlib.Core.Bool.{Bool, true, false}
 use mathlib.Core.List.{List, [], _∷_, _++_}
 use Prim.Native.Nat.{ℕ, zero, suc, _-_, _*_}
@@ -76,7 +76,16 @@ module _ (E : List ℕ → List ℕ) (d : DataPass) where
   taInputs [] = []
   taInputs (b ∷ bs) = endInputs (blocks (length (b ∷ bs)) - 1) (b ∷ bs)
 
--- the first Q, line 2 of both: the zero block, where there is data
-abbrev pub qInputs : List ℕ → List (List ℕ)
-qInputs [] = []
-qInputs (b ∷ bs) = zeros 16 ∷ []
+-- the first Q, line 2 of both: E of the zero block, where it is needed, and what that hands to the cipher; where it is not, zeros
+abbrev pub firstQ : (List ℕ → List ℕ) → Bool → List ℕ
+firstQ E true = E (zeros 16)
+firstQ E false = zeros 16
+
+abbrev pub qInputs : Bool → List (List ℕ)
+qInputs true = zeros 16 ∷ []
+qInputs false = []
+
+-- a call needs it where there is data
+abbrev pub withData : List ℕ → Bool
+withData [] = false
+withData (b ∷ bs) = true

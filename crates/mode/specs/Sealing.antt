@@ -8,7 +8,7 @@ use Rattle.block.specs.Block.{double}
 use Rattle.mode.specs.Form.{Form, parallel, serial}
 use Rattle.mode.specs.Masks.{Masks, third}
 use Rattle.mode.specs.Message.{body, te, bodyInputs, teInput}
-use Rattle.mode.specs.Data.{dataPass, ta, qInputs, taInputs}
+use Rattle.mode.specs.Data.{dataPass, ta, taInputs, qInputs, withData}
 use Rattle.mode.specs.Nonce.{format}
 
 -- over any cipher E, any masks k, and any a that goes into the tag: a tag of t bytes for the message m
@@ -34,31 +34,36 @@ abbrev pub intoTag : Form → List ℕ → List ℕ
 intoTag parallel a = a
 intoTag serial a = zeros 16
 
--- ---- AES-OTR v3.1, over any cipher E
--- TA of the associated data, in the form f, and the blocks that it hands to the cipher, from its first Q on
-abbrev pub dataTag : (List ℕ → List ℕ) → Form → List ℕ → List ℕ
-dataTag E f ad = ta E (dataPass E (E (zeros 16)) f) ad
-
-abbrev pub dataInputs : (List ℕ → List ℕ) → Form → List ℕ → List (List ℕ)
-dataInputs E f ad = qInputs ad ++ taInputs E (dataPass E (E (zeros 16)) f) ad
+-- ---- AES-OTR v3.1, over any cipher E and any first Q of the data pass, q
+-- TA of the associated data, in the form f
+abbrev pub dataTag : (List ℕ → List ℕ) → List ℕ → Form → List ℕ → List ℕ
+dataTag E q f ad = ta E (dataPass E q f) ad
 
 -- for form, nonce, associated data and tag length: U, the masks, what goes into the tag, and what a message seals to
-module _ (E : List ℕ → List ℕ) (f : Form) (nonce ad : List ℕ) (t : ℕ) where
+module _ (E : List ℕ → List ℕ) (q : List ℕ) (f : Form) (nonce ad : List ℕ) (t : ℕ) where
   abbrev pub u : List ℕ
-  u = firstMask f (E (format t nonce)) (dataTag E f ad)
+  u = firstMask f (E (format t nonce)) (dataTag E q f ad)
 
   abbrev pub masks : Masks
   masks = third u
 
   abbrev pub added : List ℕ
-  added = intoTag f (dataTag E f ad)
+  added = intoTag f (dataTag E q f ad)
 
-  abbrev pub otr : List ℕ → List ℕ
-  otr m = sealed E masks added t m
+  abbrev pub otrFrom : List ℕ → List ℕ
+  otrFrom m = sealed E masks added t m
 
-  -- the blocks that a call hands to the cipher before its message pass, and all those that sealing does
+  -- the blocks that a call hands to the cipher before its message pass, and all those that sealing does, with q at hand
   abbrev pub callInputs : List (List ℕ)
-  callInputs = format t nonce ∷ dataInputs E f ad
+  callInputs = format t nonce ∷ taInputs E (dataPass E q f) ad
+
+  abbrev pub fromInputs : List ℕ → List (List ℕ)
+  fromInputs m = callInputs ++ sealedInputs E masks m
+
+-- the same from a cipher alone: the first Q is E of the zero block, which is ciphered where there is data
+module _ (E : List ℕ → List ℕ) (f : Form) (nonce ad : List ℕ) (t : ℕ) where
+  abbrev pub otr : List ℕ → List ℕ
+  otr m = otrFrom E (E (zeros 16)) f nonce ad t m
 
   abbrev pub otrInputs : List ℕ → List (List ℕ)
-  otrInputs m = callInputs ++ sealedInputs E masks m
+  otrInputs m = qInputs (withData ad) ++ fromInputs E (E (zeros 16)) f nonce ad t m

@@ -3,28 +3,27 @@ ghost use mathlib.Core.Path.{_≡_};
 ghost use Prim.Native.Nat.{_-_, _*_, _/_, _≤_};
 ghost use lib.Dec.{ltb};
 ghost use lib.ListN.{length};
-ghost use Rattle.lists.specs.Zeros.{zeros};
 ghost use Rattle.tables.specs.Joined.{joined};
 ghost use Rattle.aes.specs.Cipher.{cipher};
-ghost use Rattle.mode.specs.Data.{DataPass, ta as taOf, qInputs, taInputs};
+ghost use Rattle.mode.specs.Data.{DataPass, ta as taOf, taInputs, firstQ, qInputs};
 use pairs::Ran;
 
-// The first Q, E of the zero block. It is needed only where there is data, and ciphered only there.
-pub fn first_q(table: &[u32; 1024], w: &[u8; 240], nr: usize, a: &[u8]) -> Ran
+// The first Q, E of the zero block, which is ciphered only where it is needed.
+pub fn first_q(table: &[u32; 1024], w: &[u8; 240], nr: usize, needed: bool) -> Ran
     requires { ⌜ now table ≡ joined ⌝ }
     requires { ⌜ (10 ≤ nr) × (nr ≤ 14) ⌝ }
-    ensures { λ r. ⌜ (1 ≤ length (now (a .entry)) → r .block ≡ cipher nr (now (w .entry)) (zeros 16)) ⌝ }
-    ensures { λ r. ⌜ r .runs ≡ length (qInputs (now (a .entry))) ⌝ }
+    ensures { λ r. ⌜ r .block ≡ firstQ (cipher nr (now (w .entry))) needed ⌝ }
+    ensures { λ r. ⌜ r .runs ≡ length (qInputs needed) ⌝ }
 {
-    if a.len() == 0 {
+    if needed {
         return Ran {
-            block: block::zeros(),
-            runs: 0,
+            block: joined::encrypt(table, w, nr, block::zeros()),
+            runs: 1,
         };
     }
     Ran {
-        block: joined::encrypt(table, w, nr, block::zeros()),
-        runs: 1,
+        block: block::zeros(),
+        runs: 0,
     }
 }
 

@@ -1,6 +1,7 @@
-// The passes of AES-OTR v3.1 over an expanded key: w is the flat array of its words, nr its round count, and table the four joined
-// tables, which every function is lent. In the contracts the cipher E is `cipher nr (now w)`. What runs the cipher says how many times
-// it did (document 02, wish 6): each of its calls is counted where it stands, and the sum is formed where passes meet.
+// The passes of AES-OTR v3.1 under a prepared key: nr is its round count, w the flat array of its round keys, and q its first mask, the
+// first Q of the data pass (document 02, wish 9); table are the four joined tables, which every function is lent. In the contracts the
+// cipher E is `cipher nr (now w)`. What runs the cipher says how many times it did (wish 6): each of its calls is counted where it
+// stands, and the sum is formed where passes meet.
 ghost use mathlib.Core.Path.{_≡_};
 ghost use Prim.Native.Nat.{_+_, _-_, _≤_};
 ghost use lib.ListN.{length};
@@ -8,9 +9,9 @@ ghost use Rattle.lists.specs.Lay.{lay};
 ghost use Rattle.tables.specs.Joined.{joined};
 ghost use Rattle.aes.specs.Cipher.{cipher};
 ghost use Rattle.mode.specs.Form.{formOf};
-ghost use Rattle.mode.specs.Data.{dataPass, ta as taOf, taInputs};
-ghost use Rattle.mode.specs.Sealing.{dataTag, dataInputs, u as uOf, added as addedOf, otr, callInputs, otrInputs};
-ghost use Rattle.mode.specs.Undoing.{found, foundInputs};
+ghost use Rattle.mode.specs.Data.{dataPass, taInputs};
+ghost use Rattle.mode.specs.Sealing.{dataTag, u as uOf, added as addedOf, otrFrom, callInputs, fromInputs};
+ghost use Rattle.mode.specs.Undoing.{foundFrom, foundFromInputs};
 ghost use Rattle.passes.specs.Shown.{shown, flag};
 use pairs::Ran;
 
@@ -21,6 +22,8 @@ mod nonce;
 mod parallel;
 mod serial;
 mod tag;
+
+pub use data::first_q;
 
 // The first mask U, what is XORed into the tag, and how many times the cipher ran for them.
 struct SealsWith {
@@ -39,7 +42,7 @@ pub struct Opening {
 fn ta(form: usize, table: &[u32; 1024], w: &[u8; 240], nr: usize, q: [u8; 16], a: &[u8]) -> Ran
     requires { ⌜ now table ≡ joined ⌝ }
     requires { ⌜ (10 ≤ nr) × (nr ≤ 14) ⌝ }
-    ensures { λ r. ⌜ r .block ≡ taOf (cipher nr (now (w .entry))) (dataPass (cipher nr (now (w .entry))) q (formOf form)) (now (a .entry)) ⌝ }
+    ensures { λ r. ⌜ r .block ≡ dataTag (cipher nr (now (w .entry))) q (formOf form) (now (a .entry)) ⌝ }
     ensures { λ r. ⌜ r .runs ≡ length (taInputs (cipher nr (now (w .entry))) (dataPass (cipher nr (now (w .entry))) q (formOf form)) (now (a .entry))) ⌝ }
 {
     if form == 0 {
@@ -48,29 +51,13 @@ fn ta(form: usize, table: &[u32; 1024], w: &[u8; 240], nr: usize, q: [u8; 16], a
     serial::ta(table, w, nr, q, a)
 }
 
-// The same with its first Q.
-fn data_tag(form: usize, table: &[u32; 1024], w: &[u8; 240], nr: usize, a: &[u8]) -> Ran
-    requires { ⌜ now table ≡ joined ⌝ }
-    requires { ⌜ (10 ≤ nr) × (nr ≤ 14) ⌝ }
-    ensures { λ r. ⌜ r .block ≡ dataTag (cipher nr (now (w .entry))) (formOf form) (now (a .entry)) ⌝ }
-    ensures { λ r. ⌜ r .runs ≡ length (dataInputs (cipher nr (now (w .entry))) (formOf form) (now (a .entry))) ⌝ }
-{
-    let first = data::first_q(table, w, nr, a);
-    let q = first.block;
-    let pass = ta(form, table, w, nr, q, a);
-    let b = pass.block;
-    Ran {
-        block: b,
-        runs: first.runs + pass.runs,
-    }
-}
-
 // What the form with this number seals with, for the nonce n and the associated data a.
 fn seals_with(
     form: usize,
     table: &[u32; 1024],
     w: &[u8; 240],
     nr: usize,
+    q: [u8; 16],
     n: &[u8],
     a: &[u8],
     t: usize,
@@ -78,12 +65,12 @@ fn seals_with(
     requires { ⌜ now table ≡ joined ⌝ }
     requires { ⌜ (10 ≤ nr) × (nr ≤ 14) ⌝ }
     requires { ⌜ (1 ≤ length (now n)) × ((length (now n) ≤ 15) × (t ≤ 16)) ⌝ }
-    ensures { λ r. ⌜ r .u ≡ uOf (cipher nr (now (w .entry))) (formOf form) (now (n .entry)) (now (a .entry)) t ⌝ }
-    ensures { λ r. ⌜ r .added ≡ addedOf (cipher nr (now (w .entry))) (formOf form) (now (n .entry)) (now (a .entry)) t ⌝ }
-    ensures { λ r. ⌜ r .runs ≡ length (callInputs (cipher nr (now (w .entry))) (formOf form) (now (n .entry)) (now (a .entry)) t) ⌝ }
+    ensures { λ r. ⌜ r .u ≡ uOf (cipher nr (now (w .entry))) q (formOf form) (now (n .entry)) (now (a .entry)) t ⌝ }
+    ensures { λ r. ⌜ r .added ≡ addedOf (cipher nr (now (w .entry))) q (formOf form) (now (n .entry)) (now (a .entry)) t ⌝ }
+    ensures { λ r. ⌜ r .runs ≡ length (callInputs (cipher nr (now (w .entry))) q (formOf form) (now (n .entry)) (now (a .entry)) t) ⌝ }
 {
     let v = joined::encrypt(table, w, nr, nonce::format(t, n));
-    let data = data_tag(form, table, w, nr, a);
+    let data = ta(form, table, w, nr, q, a);
     let ta = data.block;
     // one for the nonce block
     let runs = 1 + data.runs;
@@ -108,6 +95,7 @@ pub fn seal(
     table: &[u32; 1024],
     w: &[u8; 240],
     nr: usize,
+    q: [u8; 16],
     n: &[u8],
     a: &[u8],
     m: &[u8],
@@ -118,10 +106,10 @@ pub fn seal(
     requires { ⌜ (10 ≤ nr) × (nr ≤ 14) ⌝ }
     requires { ⌜ (1 ≤ length (now n)) × ((length (now n) ≤ 15) × (t ≤ 16)) ⌝ }
     requires { ⌜ length (now m) + t ≤ length (now out) ⌝ }
-    ensures { λ _. ⌜ now (out .exit) ≡ lay 0 (otr (cipher nr (now (w .entry))) (formOf form) (now (n .entry)) (now (a .entry)) t (now (m .entry))) (now (out .entry)) ⌝ }
-    ensures { λ r. ⌜ r ≡ length (otrInputs (cipher nr (now (w .entry))) (formOf form) (now (n .entry)) (now (a .entry)) t (now (m .entry))) ⌝ }
+    ensures { λ _. ⌜ now (out .exit) ≡ lay 0 (otrFrom (cipher nr (now (w .entry))) q (formOf form) (now (n .entry)) (now (a .entry)) t (now (m .entry))) (now (out .entry)) ⌝ }
+    ensures { λ r. ⌜ r ≡ length (fromInputs (cipher nr (now (w .entry))) q (formOf form) (now (n .entry)) (now (a .entry)) t (now (m .entry))) ⌝ }
 {
-    let with = seals_with(form, table, w, nr, n, a, t);
+    let with = seals_with(form, table, w, nr, q, n, a, t);
     let u = with.u;
     let added = with.added;
     let pass = message::seal(table, w, nr, u, m, out);
@@ -137,6 +125,7 @@ pub fn open(
     table: &[u32; 1024],
     w: &[u8; 240],
     nr: usize,
+    q: [u8; 16],
     n: &[u8],
     a: &[u8],
     s: &[u8],
@@ -147,12 +136,12 @@ pub fn open(
     requires { ⌜ (10 ≤ nr) × (nr ≤ 14) ⌝ }
     requires { ⌜ (1 ≤ length (now n)) × ((length (now n) ≤ 15) × (t ≤ 16)) ⌝ }
     requires { ⌜ (t ≤ length (now s)) × (length (now s) - t ≤ length (now out)) ⌝ }
-    ensures { λ r. ⌜ r .matches ≡ flag (found (cipher nr (now (w .entry))) (formOf form) (now (n .entry)) (now (a .entry)) t (now (s .entry))) ⌝ }
-    ensures { λ _. ⌜ now (out .exit) ≡ shown (found (cipher nr (now (w .entry))) (formOf form) (now (n .entry)) (now (a .entry)) t (now (s .entry))) (length (now (s .entry)) - t) (now (out .entry)) ⌝ }
-    ensures { λ r. ⌜ r .runs ≡ length (foundInputs (cipher nr (now (w .entry))) (formOf form) (now (n .entry)) (now (a .entry)) t (now (s .entry))) ⌝ }
+    ensures { λ r. ⌜ r .matches ≡ flag (foundFrom (cipher nr (now (w .entry))) q (formOf form) (now (n .entry)) (now (a .entry)) t (now (s .entry))) ⌝ }
+    ensures { λ _. ⌜ now (out .exit) ≡ shown (foundFrom (cipher nr (now (w .entry))) q (formOf form) (now (n .entry)) (now (a .entry)) t (now (s .entry))) (length (now (s .entry)) - t) (now (out .entry)) ⌝ }
+    ensures { λ r. ⌜ r .runs ≡ length (foundFromInputs (cipher nr (now (w .entry))) q (formOf form) (now (n .entry)) (now (a .entry)) t (now (s .entry))) ⌝ }
 {
     let b = s.len() - t;
-    let with = seals_with(form, table, w, nr, n, a, t);
+    let with = seals_with(form, table, w, nr, q, n, a, t);
     let u = with.u;
     let added = with.added;
     let pass = message::open(table, w, nr, u, &s[..b], out);

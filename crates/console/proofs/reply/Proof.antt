@@ -3,6 +3,11 @@ use borrow.Author.Needs.{needs}
 use Rattle.console.proofs.reply.Statement.{statement}
 use Rattle.console.proofs.reply.Tie as tie
 
+prepare-requires : tie.Need-prepare-requires
+prepare-requires c κs =
+    let k = c .before .before .before in
+    rw (k .key .given .1) at (k .before .before .before .before .parse .ensures)
+
 carry-out-requires : tie.Need-carry-out-requires
 carry-out-requires c κs =
     let r = c .before .before .before .before in
@@ -10,4 +15,4 @@ carry-out-requires c κs =
 
 pub reply-spec : {M : Type 1} → statement M
 reply-spec =
-    tie.close (tie.spec (λ c κs. search needs) (λ c. search needs) (λ c. search needs) (λ c κs. search needs) (λ c. search needs) carry-out-requires (λ c. search needs) (λ c. search needs) (λ c. search needs) (λ c. search needs) (λ c. search needs) (λ c. search needs) (λ c. search needs) (λ c. search needs) (λ c. search needs))
+    tie.close (tie.spec (λ c κs. search needs) (λ c. search needs) (λ c. search needs) (λ c κs. search needs) (λ c. search needs) prepare-requires (λ c κs. search needs) (λ c. search needs) carry-out-requires (λ c. search needs) (λ c. search needs) (λ c. search needs) (λ c. search needs) (λ c. search needs) (λ c. search needs) (λ c. search needs) (λ c. search needs) (λ c. search needs) (λ c. search needs) (λ c. search needs) (λ c. search needs))

@@ -1,84 +1,85 @@
--- `link::seal` meets its promise. Assumes nothing.
-use mathlib.Core.Path.{_≡_, sym, ap, ap₂, subst, _∙_}
-use mathlib.Core.List.{List}
+-- `link::seal` meets its promise: under a record of its own it seals as under the key. Assumes nothing.
+use mathlib.Core.Path.{_≡_, sym, ap, subst, _∙_}
+use mathlib.Core.Bool.{Bool}
 use Prim.Native.Nat.{ℕ, _+_, _≤_}
 use lib.ListN.{length}
-use Rattle.lists.specs.Lay.{lay}
-use Rattle.mode.specs.Form.{formOf}
-use Rattle.mode.specs.Sealing.{otr, otrInputs}
-use Rattle.link.specs.Answers.{lengthOf}
-use Rattle.link.specs.Checks.{Check, pass, sealCheck, asAnswer}
+use Rattle.mode.specs.Data.{withData}
+use Rattle.link.specs.Checks.{Check, pass, knownKey, callCheck, sealNext, asAnswer}
 use Rattle.link.specs.Promises.{sealing, sealRuns, SealsBy, Seals}
-use Rattle.link.specs.declared.answer.Answer.the-variants.{Done}
+use Rattle.link.specs.declared.prepared.Own.{Own}
 use Rattle.link.proofs.Verdicts.{Called, seal-verdict}
-use Rattle.link.proofs.Entries.{seal-stopped, went-on, keyed, rounds-in, cipher-is}
+use Rattle.link.proofs.Entries.{seal-stopped, went-on, rounds-in, one-at-most, own-seals}
 use borrow.Author.Needs.{needs}
 use Rattle.link.proofs.seal.Statement.{statement}
 use Rattle.link.proofs.seal.Tie as tie
 
+-- the checks, for a key that is known or not; and whether this one is
+abbrev checks : tie.Start → Bool → Check
+checks c known =
+    let v = c .args in
+    callCheck (v .form) known (length (v .nonce .now)) (v .tag) (length (v .ad .now)) (sealNext (v .tag) (length (v .message .now)) (length (v .out .now)))
+
+abbrev known : tie.Start → Bool
+known c =
+    let v = c .args in
+    knownKey (length (v .key .now))
+
+-- what they make sure of: every length is within its limits, and the message fits
+abbrev Fits : tie.Start → Type 0
+Fits c =
+    let v = c .args in
+    Called (v .form) (known c) (length (v .nonce .now)) (v .tag) (length (v .ad .now)) × (length (v .message .now) ≤ 16384) × (length (v .message .now) + v .tag ≤ length (v .out .now))
+
 abbrev start-of : tie.After-seal-check → tie.Start
-start-of c = c .before .before .before .before .before .before
+start-of c = c .before .before .before .before .before .before .before
 
-abbrev checks : tie.After-seal-check → Check
-checks c =
-    let v = start-of c .args in
-    sealCheck (v .form) (length (v .key .now)) (length (v .nonce .now)) (v .tag) (length (v .ad .now)) (length (v .message .now)) (length (v .out .now))
+answer-is : (c : tie.After-seal-check) → c .seal-check .result ≡ asAnswer (checks (start-of c) (known (start-of c)))
+answer-is c = c .seal-check .ensures ∙ ap (λ (b : Bool). asAnswer (checks (start-of c) b)) (c .before .known-key .ensures)
 
--- once the checks have passed: every length is within its limits, and the message fits
-facts : (c : tie.Else1)
-    → (Called (start-of (c .before .before) .args .form) (length (start-of (c .before .before) .args .key .now)) (length (start-of (c .before .before) .args .nonce .now)) (start-of (c .before .before) .args .tag) (length (start-of (c .before .before) .args .ad .now))
-    × (length (start-of (c .before .before) .args .message .now) ≤ 16384)
-    × (length (start-of (c .before .before) .args .message .now) + start-of (c .before .before) .args .tag ≤ length (start-of (c .before .before) .args .out .now)))
-    × (checks (c .before .before) ≡ pass (length (start-of (c .before .before) .args .message .now) + start-of (c .before .before) .args .tag))
-facts c =
-    let v = start-of (c .before .before) .args in
-    went-on (seal-verdict (v .form) (length (v .key .now)) (length (v .nonce .now)) (v .tag) (length (v .ad .now)) (length (v .message .now)) (length (v .out .now)))
-    (c .before .before .seal-check .result) (c .before .before .seal-check .ensures) (sym (c .before .number .ensures) ∙ c .if1 .left)
+abbrev amount : tie.Start → ℕ
+amount c =
+    let v = c .args in
+    length (v .message .now) + v .tag
+
+-- they have passed
+passed : (c : tie.Else1) → Fits (start-of (c .before .before)) × (checks (start-of (c .before .before)) (known (start-of (c .before .before))) ≡ pass (amount (start-of (c .before .before))))
+passed c =
+    went-on (seal-verdict _ _ _ _ _ _ _) _ (answer-is (c .before .before)) (sym (c .before .number .ensures) ∙ c .if1 .left)
 
 returns : tie.Need-returns
 unfolding Seals
 returns c =
     let at-check = c .before .before in
     let v = start-of at-check .args in
-    seal-stopped (checks at-check) _ (sealing (v .form) (v .key .now) (v .nonce .now) (v .ad .now) (v .tag) (v .message .now)) (v .out .now) (at-check .seal-check .result)
-    (at-check .seal-check .ensures) (λ z. c .if1 .taken (c .before .number .ensures ∙ z))
+    seal-stopped (checks (start-of at-check) (known (start-of at-check))) _ (sealing (v .form) (v .key .now) (v .nonce .now) (v .ad .now) (v .tag) (v .message .now)) (v .out .now) _ (answer-is at-check) (λ z. c .if1 .taken (c .before .number .ensures ∙ z))
+
+own-record-requires : tie.Need-own-record-requires
+own-record-requires c κs = (c .before .joined .ensures, passed (c .before .before) .0 .0 .known)
 
 seal-requires : tie.Need-seal-requires
 seal-requires c κs =
-    let at-tables = c .before .before .before in
-    let at-expand = at-tables .before .before in
-    let e = at-expand .before .before .before in
-    let v = start-of (e .before .before) .args in
-    let f = facts e .0 in
-    let key = v .key .now in (
-      at-tables .joined .ensures,
+    let own = c .before .before .before .own-record in
+    let e = c .before .before .before .before .before .before in
+    let f = passed e .0 in
+    let key = start-of (e .before .before) .args .key .now in (
+      c .before .before .before .before .before .joined .ensures,
       (
-        rounds-in key (keyed key (f .0 .known)) (at-expand .expand .result) (at-expand .expand .ensures),
-        ((f .0 .nonces .0, (f .0 .nonces .1, f .0 .tags .1)), f .2),
+        subst (λ (o : Own). (10 ≤ o .key .rounds) × (o .key .rounds ≤ 14)) (sym (own .ensures)) (rounds-in key (f .0 .known)),
+        ((f .0 .nonces .0, (f .0 .nonces .1, f .0 .tags .1)), (f .2, subst (λ (o : Own). o .runs ≤ 1) (sym (own .ensures)) (one-at-most (withData (start-of (e .before .before) .args .ad .now))))),
       ),
     )
 
 returns-2 : tie.Need-returns-2
 unfolding Seals
 returns-2 c =
-    let at-seal = c .before .before .before in
-    let at-expand = at-seal .before .before .before .before .before .before in
-    let e = at-expand .before .before .before in
-    let at-check = e .before .before in
-    let v = start-of at-check .args in
-    let key = v .key .now in
-    let f = facts e in
-    let E-is = cipher-is key (keyed key (f .0 .0 .known)) (at-expand .expand .result) (at-expand .expand .ensures) in
-    let long : c .length .result ≡ length (v .message .now) + v .tag = c .length .ensures ∙ ap lengthOf (at-check .seal-check .ensures ∙ ap asAnswer (f .1)) in
-    let runs : at-seal .seal .result ≡ sealRuns (v .form) key (v .nonce .now) (v .ad .now) (v .tag) (v .message .now) =
-    at-seal .seal .ensures .1 ∙ ap (λ (E : List ℕ → List ℕ). length (otrInputs E (formOf (v .form)) (v .nonce .now) (v .ad .now) (v .tag) (v .message .now))) E-is in
-    subst
-    (λ (x : Check). SealsBy x (sealRuns (v .form) key (v .nonce .now) (v .ad .now) (v .tag) (v .message .now)) (sealing (v .form) key (v .nonce .now) (v .ad .now) (v .tag) (v .message .now)) (v .out .now) (Done (c .length .result) (at-seal .seal .result)) (at-seal .seal .last .1 .1 .1 .1 .1 .1 .1 .1 .0))
-    (sym (f .1)) (
-      ap₂ Done long runs,
-      at-seal .seal .ensures .0 ∙ ap (λ (E : List ℕ → List ℕ). lay 0 (otr E (formOf (v .form)) (v .nonce .now) (v .ad .now) (v .tag) (v .message .now)) (v .out .now)) E-is,
-    )
+    let at-seal = c .before .before in
+    let own = at-seal .before .before .before .before .own-record in
+    let e = at-seal .before .before .before .before .before .before .before in
+    let v = start-of (e .before .before) .args in
+    let f = passed e in
+    subst (λ (x : Check). SealsBy x (sealRuns (v .form) (v .key .now) (v .nonce .now) (v .ad .now) (v .tag) (v .message .now)) (sealing (v .form) (v .key .now) (v .nonce .now) (v .ad .now) (v .tag) (v .message .now)) (v .out .now) (at-seal .seal .result) (at-seal .seal .last .1 .1 .1 .1 .1 .1 .1 .1 .0)) (sym (f .1))
+    (own-seals (v .key .now) (f .0 .0 .known) (v .form) (v .nonce .now) (v .ad .now) (v .tag) (own .result)
+    (own .ensures) (pass (amount (start-of (e .before .before)))) (v .message .now) (v .out .now) (at-seal .seal .result) (at-seal .seal .last .1 .1 .1 .1 .1 .1 .1 .1 .0) (at-seal .seal .ensures))
 
 pub seal-spec : {M : Type 1} → statement M
-seal-spec =
-    tie.close (tie.spec (λ c κs. search needs) (λ c κs. search needs) returns (λ c κs. search needs) (λ c κs. search needs) (λ c κs. search needs) seal-requires (λ c κs. search needs) (λ c. search needs) returns-2)
+seal-spec = tie.close (tie.spec (λ c κs. search needs) (λ c κs. search needs) (λ c κs. search needs) returns (λ c κs. search needs) own-record-requires seal-requires (λ c. search needs) returns-2)

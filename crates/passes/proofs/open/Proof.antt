@@ -18,12 +18,12 @@ use Rattle.mode.specs.Masks.{Masks, third}
 use Rattle.mode.specs.Message.{te}
 use Rattle.mode.specs.Sealing.{masks, added, callInputs}
 use Rattle.mode.specs.Opening.{Opened}
-use Rattle.mode.specs.Undoing.{unbody, undoneInputs, answer, found as foundOf, foundInputs}
+use Rattle.mode.specs.Undoing.{unbody, undoneInputs, answer, foundFrom, foundFromInputs}
 use Rattle.mode.proofs.Walk.{length-unbody}
 use Rattle.mode.proofs.Third.{otr-masks}
-use Rattle.mode.proofs.Runs.{length-foundInputs}
+use Rattle.mode.proofs.Runs.{length-foundFromInputs}
 use Rattle.passes.specs.Shown.{shown, flag}
-use Rattle.pairs.proofs.Cipher.{is-cipher}
+use Rattle.pairs.proofs.Cipher.{is-cipher, length-ta}
 use Rattle.passes.proofs.Sealed.{opened-by}
 use borrow.Author.Needs.{needs}
 use Rattle.passes.proofs.open.Statement.{statement}
@@ -34,7 +34,7 @@ abbrev E : tie.Start → List ℕ → List ℕ
 E c = cipher (c .args .nr) (c .args .w .now)
 
 abbrev k : tie.Start → Masks
-k c = masks (E c) (formOf (c .args .form)) (c .args .n .now) (c .args .a .now) (c .args .t)
+k c = masks (E c) (c .args .q) (formOf (c .args .form)) (c .args .n .now) (c .args .a .now) (c .args .t)
 
 abbrev ciphertext : tie.Start → List ℕ
 ciphertext c = take (length (c .args .s .now) - c .args .t) (c .args .s .now)
@@ -43,7 +43,7 @@ abbrev plain : tie.Start → List ℕ
 plain c = unbody (E c) (k c) (ciphertext c)
 
 abbrev found : tie.Start → Opened
-found c = foundOf (E c) (formOf (c .args .form)) (c .args .n .now) (c .args .a .now) (c .args .t) (c .args .s .now)
+found c = foundFrom (E c) (c .args .q) (formOf (c .args .form)) (c .args .n .now) (c .args .a .now) (c .args .t) (c .args .s .now)
 
 cipher-long : (c : tie.Start) → length (ciphertext c) ≡ length (c .args .s .now) - c .args .t
 cipher-long c = length-take-le (length (c .args .s .now) - c .args .t) (c .args .s .now) (omega arith)
@@ -52,7 +52,7 @@ plain-long : (c : tie.Start) → length (plain c) ≡ length (c .args .s .now) -
 plain-long c =
     let v = c .args in
     let e = is-cipher (v .nr) (v .w .now) in
-    length-unbody (E c) e (k c) (otr-masks (E c) e (formOf (v .form)) (v .n .now) (v .a .now) (v .t) (c .pre .1 .1 .0 .1 .0)) (ciphertext c) ∙ cipher-long c
+    length-unbody (E c) e (k c) (otr-masks (E c) e (v .q) (formOf (v .form)) (v .n .now) (v .a .now) (v .t) (length-ta (v .nr) (v .w .now) (v .q) (formOf (v .form)) (v .a .now)) (c .pre .1 .1 .0 .1 .0)) (ciphertext c) ∙ cipher-long c
 
 -- once the tags are compared
 abbrev open-of : tie.After-same-tag → tie.After-open
@@ -80,27 +80,27 @@ answer-is c =
     let with = with-of c .seals-with .ensures in
     let te-is = open-of c .«open» .ensures .1 .0 ∙ ap (λ (x : List ℕ). te (E start) (third x) (unbody (E start) (third x) (ciphertext start))) (with .0) in
     let x-is = c .before .before .before .xor .ensures ∙ ap₂ xor te-is (with .1 .0) in
-    opened-by (E start) (k start) (added (E start) (formOf (v .form)) (v .n .now) (v .a .now) (v .t)) (v .t) (v .s .now) (c .same-tag .result)
+    opened-by (E start) (k start) (added (E start) (v .q) (formOf (v .form)) (v .n .now) (v .a .now) (v .t)) (v .t) (v .s .now) (c .same-tag .result)
     (sym (c .same-tag .ensures ∙ ap (λ (x : List ℕ). same (take (v .t) x) (drop (length (v .s .now) - v .t) (v .s .now))) x-is))
 
 -- the runs before the message pass, and its own
 runs-are : (c : tie.After-open)
     → c .before .before .before .before .before .seals-with .result .runs + c .«open» .result .runs
-    ≡ length (foundInputs (E (opening-of c)) (formOf (opening-of c .args .form)) (opening-of c .args .n .now) (opening-of c .args .a .now) (opening-of c .args .t) (opening-of c .args .s .now))
+    ≡ length (foundFromInputs (E (opening-of c)) (opening-of c .args .q) (formOf (opening-of c .args .form)) (opening-of c .args .n .now) (opening-of c .args .a .now) (opening-of c .args .t) (opening-of c .args .s .now))
 runs-are c =
     let start = opening-of c in
     let v = start .args in
     let f = formOf (v .form) in
     let with = c .before .before .before .before .before .seals-with .ensures in
     ap₂ _+_ (with .1 .1) (c .«open» .ensures .1 .1 ∙ ap (λ (x : List ℕ). length (undoneInputs (E start) (third x) (ciphertext start))) (with .0))
-    ∙ sym (length-append (callInputs (E start) f (v .n .now) (v .a .now) (v .t)) (undoneInputs (E start) (k start) (ciphertext start)))
+    ∙ sym (length-append (callInputs (E start) (v .q) f (v .n .now) (v .a .now) (v .t)) (undoneInputs (E start) (k start) (ciphertext start)))
 
 add-runs : tie.Need-add-runs
 add-runs c =
     let at-open = c .before .before .before .before .before .before in
     let start = opening-of at-open in
     let v = start .args in
-    record { fits = omega (arith, runs-are at-open, length-foundInputs (E start) (formOf (v .form)) (v .n .now) (v .a .now) (v .t) (v .s .now), start .good) }
+    record { fits = omega (arith, runs-are at-open, length-foundFromInputs (E start) (v .q) (formOf (v .form)) (v .n .now) (v .a .now) (v .t) (v .s .now), start .good) }
 
 slice-aggregate-open : tie.Need-slice-aggregate-open
 slice-aggregate-open c = sym (cipher-long (c .before .before .before .before .before .before .before .before))

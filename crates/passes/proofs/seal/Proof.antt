@@ -11,10 +11,10 @@ use Rattle.aes.specs.Cipher.{cipher}
 use Rattle.mode.specs.Form.{formOf}
 use Rattle.mode.specs.Masks.{third}
 use Rattle.mode.specs.Message.{body, te}
-use Rattle.mode.specs.Sealing.{sealedInputs, masks, added, callInputs, otrInputs}
+use Rattle.mode.specs.Sealing.{sealedInputs, masks, added, callInputs, fromInputs}
 use Rattle.mode.proofs.Third.{otr-masks, length-added}
-use Rattle.mode.proofs.Runs.{length-otrInputs}
-use Rattle.pairs.proofs.Cipher.{is-cipher}
+use Rattle.mode.proofs.Runs.{length-fromInputs}
+use Rattle.pairs.proofs.Cipher.{is-cipher, length-ta}
 use Rattle.passes.proofs.Sealed.{tagged}
 use borrow.Author.Needs.{needs}
 use Rattle.passes.proofs.seal.Statement.{statement}
@@ -43,14 +43,14 @@ array-share-prefix-x c = omega (arith, x-long (c .before), start-of (c .before) 
 -- the runs before the message pass, and its own
 runs-are : (c : tie.After-xor)
     → with-of c .seals-with .result .runs + seal-of c .seal .result .runs
-    ≡ length (otrInputs (cipher (start-of c .args .nr) (start-of c .args .w .now)) (formOf (start-of c .args .form)) (start-of c .args .n .now) (start-of c .args .a .now) (start-of c .args .t) (start-of c .args .m .now))
+    ≡ length (fromInputs (cipher (start-of c .args .nr) (start-of c .args .w .now)) (start-of c .args .q) (formOf (start-of c .args .form)) (start-of c .args .n .now) (start-of c .args .a .now) (start-of c .args .t) (start-of c .args .m .now))
 runs-are c =
     let v = start-of c .args in
     let E = cipher (v .nr) (v .w .now) in
     let f = formOf (v .form) in
     let with = with-of c .seals-with .ensures in
     ap₂ _+_ (with .1 .1) (seal-of c .seal .ensures .1 .1 ∙ ap (λ (x : List ℕ). length (sealedInputs E (third x) (v .m .now))) (with .0))
-    ∙ sym (length-append (callInputs E f (v .n .now) (v .a .now) (v .t)) (sealedInputs E (masks E f (v .n .now) (v .a .now) (v .t)) (v .m .now)))
+    ∙ sym (length-append (callInputs E (v .q) f (v .n .now) (v .a .now) (v .t)) (sealedInputs E (masks E (v .q) f (v .n .now) (v .a .now) (v .t)) (v .m .now)))
 
 slice-aggregate-lay : tie.Need-slice-aggregate-lay
 slice-aggregate-lay c = sym (part-long (c .before .before))
@@ -65,7 +65,7 @@ add-result c =
     let at-xor = c .before .before .before .before .before .before .before in
     let start = start-of at-xor in
     let v = start .args in
-    record { fits = omega (arith, runs-are at-xor, length-otrInputs (cipher (v .nr) (v .w .now)) (formOf (v .form)) (v .n .now) (v .a .now) (v .t) (v .m .now), start .good) }
+    record { fits = omega (arith, runs-are at-xor, length-fromInputs (cipher (v .nr) (v .w .now)) (v .q) (formOf (v .form)) (v .n .now) (v .a .now) (v .t) (v .m .now), start .good) }
 
 returns : tie.Need-returns
 returns c =
@@ -78,7 +78,8 @@ returns c =
     let E = cipher (v .nr) (v .w .now) in
     let e = is-cipher (v .nr) (v .w .now) in
     let f = formOf (v .form) in
-    let k = masks E f (v .n .now) (v .a .now) (v .t) in
+    let k = masks E (v .q) f (v .n .now) (v .a .now) (v .t) in
+    let long = length-ta (v .nr) (v .w .now) (v .q) f (v .a .now) in
     let m = v .m .now in
     let out = v .out .now in
     let body-is = at-seal .seal .ensures .0 ∙ ap (λ (x : List ℕ). lay 0 (body E (third x) m) out) (with .0) in
@@ -86,8 +87,8 @@ returns c =
     let x-is = at-xor .xor .ensures ∙ ap₂ xor te-is (with .1 .0) in (
       at-lay .lay .ensures
           ∙ ap₂ (λ (x b : List ℕ). lay (length m) (take (v .t) x) b) x-is body-is
-          ∙ tagged E e k (otr-masks E e f (v .n .now) (v .a .now) (v .t) (start .pre .1 .1 .0 .1 .0)) (added E f (v .n .now) (v .a .now) (v .t))
-          (length-added E e f (v .n .now) (v .a .now) (v .t)) (v .t) (start .pre .1 .1 .0 .1 .1) m out (start .pre .1 .1 .1),
+          ∙ tagged E e k (otr-masks E e (v .q) f (v .n .now) (v .a .now) (v .t) long (start .pre .1 .1 .0 .1 .0)) (added E (v .q) f (v .n .now) (v .a .now) (v .t))
+          (length-added E e (v .q) f (v .n .now) (v .a .now) (v .t) long) (v .t) (start .pre .1 .1 .0 .1 .1) m out (start .pre .1 .1 .1),
       runs-are at-xor,
     )
 

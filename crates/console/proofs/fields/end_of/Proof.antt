@@ -1,12 +1,12 @@
 -- `console::fields::end_of` meets its contract. Assumes nothing.
-use Prim.Native.Nat.{_≤_, _-_}
+use Prim.Native.Nat.{_≤_, _+_, _-_}
 use lib.ListN.{length}
 use borrow.Author.Needs.{needs}
 use Rattle.console.proofs.fields.end_of.Statement.{statement}
 use Rattle.console.proofs.fields.end_of.Tie as tie
 
 abbrev Inv-loop : tie.InvT-loop
-Inv-loop line from at₀ at = from ≤ at
+Inv-loop line from at₀ at = (from ≤ at) × (at ≤ from + length line)
 
 abbrev μ-loop : tie.MeasureT-loop
 μ-loop line from at₀ at = length line - at

@@ -4,7 +4,7 @@ use mathlib.Core.Bool.{true}
 use Prim.Native.Nat.{_+_, _-_, _≤_}
 use native.Mathlib.Omega.{arith}
 use borrow.Author.Tests.{le-leb, lt-leb, not-true, not-false}
-use Rattle.link.specs.Checks.{Check, from-to, openNext, openCheck, asAnswer}
+use Rattle.link.specs.Checks.{Check, from-to, callCheck, openNext, asAnswer}
 use Rattle.link.proofs.Verdicts.{within, called, goes-on, stops-here}
 use borrow.Author.Needs.{needs}
 use Rattle.link.proofs.check.open_check.Statement.{statement}
@@ -19,11 +19,10 @@ next c =
 abbrev checks : tie.Start → Check
 checks c =
     let v = c .args in
-    openCheck (v .form) (v .key) (v .nonce) (v .tag) (v .ad) (v .sealed) (v .room)
+    callCheck (v .form) (v .known) (v .nonce) (v .tag) (v .ad) (openNext (v .tag) (v .sealed) (v .room))
 
 -- they have passed
 next-is : (c : tie.Else1) → checks (c .before .before .before) ≡ next (c .before .before .before)
-unfolding openCheck
 next-is c =
     let at-check = c .before .before in
     goes-on _ _ _ _ _ _ (at-check .call-check .ensures) _ (c .before .number .ensures) (c .if1 .left) (next (at-check .before))
@@ -37,7 +36,6 @@ in-range c =
     within (v .tag) (16384 + v .tag) (v .sealed) (range-is c)
 
 returns : tie.Need-returns
-unfolding openCheck
 returns c =
     let at-check = c .before .before in
     stops-here _ _ _ _ _ _ (at-check .call-check .ensures) _ (c .before .number .ensures) (c .if1 .taken) (next (at-check .before))

@@ -3,7 +3,7 @@ use mathlib.Core.Path.{_≡_, sym, ap, _∙_}
 use Prim.Native.Nat.{_+_}
 use native.Mathlib.Omega.{arith}
 use borrow.Author.Tests.{le-leb, lt-leb}
-use Rattle.link.specs.Checks.{Check, sealNext, sealCheck, asAnswer}
+use Rattle.link.specs.Checks.{Check, callCheck, sealNext, asAnswer}
 use Rattle.link.proofs.Verdicts.{called, goes-on, stops-here}
 use borrow.Author.Needs.{needs}
 use Rattle.link.proofs.check.seal_check.Statement.{statement}
@@ -18,17 +18,15 @@ next c =
 abbrev checks : tie.Start → Check
 checks c =
     let v = c .args in
-    sealCheck (v .form) (v .key) (v .nonce) (v .tag) (v .ad) (v .message) (v .room)
+    callCheck (v .form) (v .known) (v .nonce) (v .tag) (v .ad) (sealNext (v .tag) (v .message) (v .room))
 
 -- they have passed
 next-is : (c : tie.Else1) → checks (c .before .before .before) ≡ next (c .before .before .before)
-unfolding sealCheck
 next-is c =
     let at-check = c .before .before in
     goes-on _ _ _ _ _ _ (at-check .call-check .ensures) _ (c .before .number .ensures) (c .if1 .left) (next (at-check .before))
 
 returns : tie.Need-returns
-unfolding sealCheck
 returns c =
     let at-check = c .before .before in
     stops-here _ _ _ _ _ _ (at-check .call-check .ensures) _ (c .before .number .ensures) (c .if1 .taken) (next (at-check .before))

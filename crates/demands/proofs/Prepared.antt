@@ -1,0 +1,216 @@
+-- Document 02, wish 9: what preparing gives; and for a record that it gave, the answers are those of its key, in number, length and buffer, for
+-- every input. The runs are fewer by the zero block's one where there is associated data, and equal where there is none. Assumes nothing.
+use mathlib.Core.Path.{_≡_, refl, sym, ap, subst, _∙_}
+use mathlib.Core.Bool.{Bool, true, false}
+use mathlib.Core.Logic.{_⊎_, inl, inr}
+use mathlib.Core.List.{List, _++_}
+use Prim.Native.Nat.{ℕ, _+_, _-_, _≤_}
+use native.Mathlib.Nat.{zero-add}
+use native.Mathlib.Omega.{arith}
+use lib.ListN.{length, length-append}
+use Rattle.lists.specs.Lay.{lay}
+use Rattle.lists.specs.Zeros.{zeros}
+use Rattle.aes.specs.Cipher.{cipher}
+use Rattle.aes.specs.Expansion.{aes}
+use Rattle.aes.specs.Key.{expanded}
+use Rattle.mode.specs.Form.{formOf}
+use Rattle.mode.specs.Data.{qInputs, withData}
+use Rattle.mode.specs.Sealing.{otrFrom, fromInputs}
+use Rattle.mode.specs.Opening.{Opened, accepted, refused, Allowed}
+use Rattle.mode.specs.Undoing.{foundFromInputs}
+use Rattle.mode.proofs.Runs.{length-qInputs}
+use Rattle.link.specs.Answers.{numberOf, lengthOf, runsOf, answerOf}
+use Rattle.link.specs.Checks.{Check, pass, stop, knownKey, knownRounds, callCheck, sealNext, openNext, asAnswer}
+use Rattle.link.specs.Prepared.{cipherOf, preparedIf, preparation}
+use Rattle.link.specs.Promises.{sealing, sealRuns, openRuns, SealsBy, Seals, openedAs, OpensBy, Opens, sealingWith, sealRunsWith, openRunsWith, SealsWith, OpensWith}
+use Rattle.link.specs.declared.answer.Answer.{Answer}
+use Rattle.link.specs.declared.answer.Answer.the-variants.{Done, Key, Forged}
+use Rattle.link.specs.declared.prepared.Prepared.{Prepared}
+use Rattle.link.proofs.Answers.{Answered, done, forged, refusal, answered, stands-for, parts, no-runs}
+use Rattle.link.proofs.Verdicts.{Verdict, passes, stops, Called, seal-verdict, open-verdict}
+use Rattle.link.proofs.Entries.{rounds-known, cipher-is}
+use Rattle.demands.specs.Calls.{keyKnown, OneOf}
+use Rattle.demands.proofs.Decided.{pass-or-stop, seals-decided, opens-decided}
+use Rattle.demands.proofs.Demand1.{stop-is, seal-not-7, open-not-7}
+use Rattle.demands.proofs.Limits.{known}
+
+-- ---- what preparing gives
+-- a key of 16, 24 or 32 bytes: done after one run, with its round count and round keys, those not used zero, and E(zero)
+pub prepares : (key : List ℕ) → OneOf 16 24 32 (length key)
+    → preparation key ≡ record { answer = Done 0 1; key = record { rounds = expanded key .rounds; words = expanded key .words; zero = aes key (zeros 16) } }
+unfolding preparation
+prepares key keys = ap (λ (b : Bool). preparedIf b key) (known 16 24 32 (length key) keys)
+
+-- a key of another length: 1 after no run, with a record of zeros
+pub refuses : (key : List ℕ) → keyKnown key ≡ false
+    → preparation key ≡ record { answer = Key; key = record { rounds = 0; words = zeros 240; zero = zeros 16 } }
+unfolding preparation
+refuses key h = ap (λ (b : Bool). preparedIf b key) h
+
+-- ---- the record of a key
+module _ (key : List ℕ) where
+  abbrev pub p : Prepared
+  p = preparation key .key
+
+  -- check 1 comes to the same
+  known-alike : knownRounds (p .rounds) ≡ knownKey (length key)
+  unfolding preparation
+  known-alike = go (knownKey (length key)) refl
+    where
+      go : (b : Bool) → knownKey (length key) ≡ b → knownRounds (preparedIf b key .key .rounds) ≡ b
+      go true h = rounds-known key h
+      go false h = refl
+
+  -- and where it passes, the cipher and the first mask are the key's
+  module _ (h : knownKey (length key) ≡ true) where
+    under-key : {A : Type 0} (f : (List ℕ → List ℕ) → List ℕ → A) → f (cipherOf p) (p .zero) ≡ f (aes key) (aes key (zeros 16))
+    unfolding preparation
+    under-key f =
+        ap (λ (b : Bool). f (cipherOf (preparedIf b key .key)) (preparedIf b key .key .zero)) h
+        ∙ ap (λ (E : List ℕ → List ℕ). f E (aes key (zeros 16))) (cipher-is key h)
+
+-- ---- an answer with z runs more
+module _ (z : ℕ) where
+  abbrev more : Answer → Answer
+  more r = answerOf (numberOf r) (lengthOf r) (z + runsOf r)
+
+  -- number and length stay, and so does an answer that ran no cipher
+  same-number : (r : Answer) → (numberOf (more r) ≡ numberOf r) × (lengthOf (more r) ≡ lengthOf r)
+  same-number r = go (answered r)
+    where
+      go : Answered r → (numberOf (more r) ≡ numberOf r) × (lengthOf (more r) ≡ lengthOf r)
+      go (done n k e) = (ap (λ (x : Answer). numberOf (more x)) e ∙ sym (ap numberOf e), ap (λ (x : Answer). lengthOf (more x)) e ∙ sym (ap lengthOf e))
+      go (forged k e) = (ap (λ (x : Answer). numberOf (more x)) e ∙ sym (ap numberOf e), ap (λ (x : Answer). lengthOf (more x)) e ∙ sym (ap lengthOf e))
+      go (refusal most none runs stands) =
+          let is = sym (stands (lengthOf r) (z + runsOf r)) in
+          (ap numberOf is, ap lengthOf is)
+
+  stays : (x : Answer) → (numberOf x ≡ 0 → ⊥) → (numberOf x ≡ 7 → ⊥) → more x ≡ x
+  stays x not0 not7 = sym (stands-for x (lengthOf x) (z + runsOf x) (λ h. refl) never)
+    where
+      never : (numberOf x ≡ 0) ⊎ (numberOf x ≡ 7) → runsOf x ≡ z + runsOf x
+      never (inl h) = absurd (not0 h)
+      never (inr h) = absurd (not7 h)
+
+  runs-more : (r : Answer) → (numberOf r ≡ 0) ⊎ (numberOf r ≡ 7) → runsOf (more r) ≡ z + runsOf r
+  runs-more r (inl h) = ap (λ (i : ℕ). runsOf (answerOf i (lengthOf r) (z + runsOf r))) h
+  runs-more r (inr h) = ap (λ (i : ℕ). runsOf (answerOf i (lengthOf r) (z + runsOf r))) h
+
+  more-seals : (c : Check) (k k′ : ℕ) (bytes bytes′ out : List ℕ) (r : Answer) (after : List ℕ) → ((x : Answer) → c ≡ stop x → more x ≡ x)
+      → ((n : ℕ) → c ≡ pass n → (z + k ≡ k′) × (bytes ≡ bytes′)) → SealsBy c k bytes out r after → SealsBy c k′ bytes′ out (more r) after
+  more-seals (pass n) k k′ bytes bytes′ out r after at-stop at-pass p =
+      let same = at-pass n refl in
+      (ap more (p .0) ∙ ap (Done n) (same .0), p .1 ∙ ap (λ (b : List ℕ). lay 0 b out) (same .1))
+  more-seals (stop x) k k′ bytes bytes′ out r after at-stop at-pass p = (ap more (p .0) ∙ at-stop x refl, p .1)
+
+  opened-more : (n k k′ : ℕ) (o : Opened) → z + k ≡ k′ → more (openedAs n k o) ≡ openedAs n k′ o
+  opened-more n k k′ (accepted m) h = ap (Done n) h
+  opened-more n k k′ refused h = ap Forged h
+
+  more-opens : (c : Check) (k k′ : ℕ) (seal seal′ : List ℕ → List ℕ) (s out : List ℕ) (r : Answer) (after : List ℕ) → ((x : Answer) → c ≡ stop x → more x ≡ x)
+      → ((n : ℕ) → c ≡ pass n → (z + k ≡ k′) × (seal ≡ seal′)) → OpensBy c k seal s out r after → OpensBy c k′ seal′ s out (more r) after
+  more-opens (pass n) k k′ seal seal′ s out r after at-stop at-pass (o, a, is, b) =
+      let same = at-pass n refl in
+      (o, subst (λ (f : List ℕ → List ℕ). Allowed f s o) (same .1) a, ap more is ∙ opened-more n k k′ o (same .0), b)
+  more-opens (stop x) k k′ seal seal′ s out r after at-stop at-pass p = (ap more (p .0) ∙ at-stop x refl, p .1)
+
+-- what checks stop with ran no cipher; and where they pass, what they make sure of is known
+module _ {P : Type 0} {n : ℕ} (c : Check) (v : Verdict P n c) where
+  stopped : (z : ℕ) → (numberOf (asAnswer c) ≡ 7 → ⊥) → (x : Answer) → c ≡ stop x → more z x ≡ x
+  stopped z not7 x e = stays z x (stop-is P n c v x e) (λ h. not7 (ap (λ (d : Check). numberOf (asAnswer d)) e ∙ h))
+
+  passed : (i : ℕ) → c ≡ pass i → P
+  passed i e = go v
+    where
+      go : Verdict P n c → P
+      go (passes q w) = q
+      go (stops x z w) = absurd (pass-or-stop i x (sym e ∙ w))
+
+-- ---- under the record of a key: with the zero block's run, where there is data, the answer is one that the key's promise allows
+module _ (form : ℕ) (key nonce ad : List ℕ) (t : ℕ) (out : List ℕ) where
+  abbrev pub zeroRun : ℕ
+  zeroRun = length (qInputs (withData ad))
+
+  -- the runs for the zero block, and those with the first mask at hand
+  and-zero : (k : ℕ) (own : List (List ℕ)) → k ≡ length own → zeroRun + k ≡ length (qInputs (withData ad) ++ own)
+  and-zero k own h = ap (λ (i : ℕ). zeroRun + i) h ∙ sym (length-append (qInputs (withData ad)) own)
+
+  pub seals-as-key : (m : List ℕ) (r : Answer) (after : List ℕ) → SealsWith form (p key) nonce ad m t out r after → Seals form key nonce ad m t out (more zeroRun r) after
+  unfolding Seals SealsWith
+  seals-as-key m r after h =
+      more-seals zeroRun c (sealRunsWith form (p key) nonce ad t m) (sealRuns form key nonce ad t m) (sealingWith form (p key) nonce ad t m) (sealing form key nonce ad t m) out r after
+      (stopped c verdict zeroRun (seal-not-7 form (knownKey (length key)) nonce ad m t out))
+      (λ n e. let is = passed c verdict n e .0 .known in (
+        and-zero _ (fromInputs (aes key) (aes key (zeros 16)) (formOf form) nonce ad t m) (under-key key is (λ E q. length (fromInputs E q (formOf form) nonce ad t m))),
+        under-key key is (λ E q. otrFrom E q (formOf form) nonce ad t m),
+      ))
+      (subst (λ (b : Bool). SealsBy (callCheck form b (length nonce) t (length ad) (sealNext t (length m) (length out))) (sealRunsWith form (p key) nonce ad t m) (sealingWith form (p key) nonce ad t m) out r after)
+      (known-alike key) h)
+    where
+      c : Check
+      c = callCheck form (knownKey (length key)) (length nonce) t (length ad) (sealNext t (length m) (length out))
+
+      verdict : Verdict (Called form (knownKey (length key)) (length nonce) t (length ad) × (length m ≤ 16384) × (length m + t ≤ length out)) (length m + t) c
+      verdict = seal-verdict form (knownKey (length key)) (length nonce) t (length ad) (length m) (length out)
+
+  pub opens-as-key : (s : List ℕ) (r : Answer) (after : List ℕ) → OpensWith form (p key) nonce ad s t out r after → Opens form key nonce ad s t out (more zeroRun r) after
+  unfolding Opens OpensWith
+  opens-as-key s r after h =
+      more-opens zeroRun c (openRunsWith form (p key) nonce ad t s) (openRuns form key nonce ad t s) (sealingWith form (p key) nonce ad t) (sealing form key nonce ad t) s out r after
+      (stopped c verdict zeroRun (open-not-7 form (knownKey (length key)) nonce ad s t out))
+      (λ n e. let is = passed c verdict n e .0 .known in (
+        and-zero _ (foundFromInputs (aes key) (aes key (zeros 16)) (formOf form) nonce ad t s) (under-key key is (λ E q. length (foundFromInputs E q (formOf form) nonce ad t s))),
+        under-key key is (λ E q. otrFrom E q (formOf form) nonce ad t),
+      ))
+      (subst (λ (b : Bool). OpensBy (callCheck form b (length nonce) t (length ad) (openNext t (length s) (length out))) (openRunsWith form (p key) nonce ad t s) (sealingWith form (p key) nonce ad t) s out r after)
+      (known-alike key) h)
+    where
+      c : Check
+      c = callCheck form (knownKey (length key)) (length nonce) t (length ad) (openNext t (length s) (length out))
+
+      verdict : Verdict (Called form (knownKey (length key)) (length nonce) t (length ad) × (t ≤ length s) × (length s ≤ 16384 + t) × (length s - t ≤ length out)) (length s - t) c
+      verdict = open-verdict form (knownKey (length key)) (length nonce) t (length ad) (length s) (length out)
+
+-- ---- so the answers r under the record and r′ under the key are alike
+pub record Alike (ad : List ℕ) (r r′ : Answer) (after after′ : List ℕ) : Type 0 where
+  pub number : numberOf r ≡ numberOf r′
+  pub long : lengthOf r ≡ lengthOf r′
+  pub buffer : after ≡ after′
+  -- the runs: one fewer with data, where the cipher ran, and none where it did not; and equal without data
+  pub one-fewer : 1 ≤ length ad → (numberOf r ≡ 0) ⊎ (numberOf r ≡ 7) → 1 + runsOf r ≡ runsOf r′
+  pub none : (numberOf r ≡ 0 → ⊥) → (numberOf r ≡ 7 → ⊥) → (runsOf r ≡ 0) × (runsOf r′ ≡ 0)
+  pub equal : length ad ≡ 0 → runsOf r ≡ runsOf r′
+
+alike : (ad : List ℕ) (r r′ : Answer) (after after′ : List ℕ) → (more (length (qInputs (withData ad))) r ≡ r′) × (after ≡ after′) → Alike ad r r′ after after′
+alike ad r r′ after after′ (is, same) =
+    let z = length (qInputs (withData ad)) in
+    let number-is = sym (same-number z r .0) ∙ ap numberOf is in
+    let without : length ad ≡ 0 → z ≡ 0 = λ h. omega (arith, length-qInputs ad) in
+    record {
+      number = number-is;
+      long = sym (same-number z r .1) ∙ ap lengthOf is;
+      buffer = same;
+      one-fewer = λ some ran. let one : z ≡ 1 = omega (arith, length-qInputs ad) in ap (λ (k : ℕ). k + runsOf r) (sym one) ∙ sym (runs-more z r ran) ∙ ap runsOf is;
+      none = λ not0 not7. (no-runs r not0 not7, no-runs r′ (λ h. not0 (number-is ∙ h)) (λ h. not7 (number-is ∙ h)));
+      equal = λ h. ap runsOf (parts r ∙ ap (answerOf (numberOf r) (lengthOf r)) (sym (zero-add (runsOf r)) ∙ ap (λ (k : ℕ). k + runsOf r) (sym (without h))) ∙ is);
+    }
+
+module _ (form : ℕ) (key nonce ad : List ℕ) (t : ℕ) (out : List ℕ) (r r′ : Answer) (after after′ : List ℕ) where
+  pub seals-alike : (m : List ℕ) → SealsWith form (p key) nonce ad m t out r after → Seals form key nonce ad m t out r′ after′ → Alike ad r r′ after after′
+  seals-alike m h h′ =
+      alike ad r r′ after after′ (seals-decided form key nonce ad m t out _ r′ after after′ (seals-as-key form key nonce ad t out m r after h) h′)
+
+  pub opens-alike : (s : List ℕ) → OpensWith form (p key) nonce ad s t out r after → Opens form key nonce ad s t out r′ after′ → Alike ad r r′ after after′
+  opens-alike s h h′ =
+      alike ad r r′ after after′ (opens-decided form key nonce ad s t out _ r′ after after′ (opens-as-key form key nonce ad t out s r after h) h′)
+
+-- and a wrong program that the key's promise rules out by its number and buffer, that of the record rules out too
+module _ (form : ℕ) (key nonce ad body : List ℕ) (t : ℕ) (out : List ℕ) (Bad : ℕ → List ℕ → Type 0) (r : Answer) (after : List ℕ) (bad : Bad (numberOf r) after) where
+  bad-too : Bad (numberOf (more (zeroRun form key nonce ad t out) r)) after
+  bad-too = subst (λ (i : ℕ). Bad i after) (sym (same-number (zeroRun form key nonce ad t out) r .0)) bad
+
+  pub seals-ruled-out : ((x : Answer) (a : List ℕ) → Bad (numberOf x) a → Seals form key nonce ad body t out x a → ⊥) → SealsWith form (p key) nonce ad body t out r after → ⊥
+  seals-ruled-out never h = never _ after bad-too (seals-as-key form key nonce ad t out body r after h)
+
+  pub opens-ruled-out : ((x : Answer) (a : List ℕ) → Bad (numberOf x) a → Opens form key nonce ad body t out x a → ⊥) → OpensWith form (p key) nonce ad body t out r after → ⊥
+  opens-ruled-out never h = never _ after bad-too (opens-as-key form key nonce ad t out body r after h)
