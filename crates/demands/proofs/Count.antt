@@ -4,7 +4,7 @@ use mathlib.Core.Path.{_≡_, refl, sym, ap, ap₂, _∙_}
 use mathlib.Core.Bool.{Bool}
 use mathlib.Core.Logic.{_⊎_, inl, inr}
 use mathlib.Core.List.{List, _++_}
-use Prim.Native.Nat.{ℕ, zero, suc, _+_, _-_, _/_, _≤_, min}
+use Prim.Native.Nat.{ℕ, zero, suc, _+_, _-_, _/_, min}
 use native.Mathlib.Omega.{arith}
 use lib.ListN.{length, length-append}
 use Rattle.lists.specs.Zeros.{zeros}
@@ -22,7 +22,7 @@ use Rattle.link.specs.Promises.{sealing, sealRuns, openRuns, SealsBy, Seals, Op
 use Rattle.link.specs.declared.answer.Answer.{Answer}
 use Rattle.link.specs.declared.prepared.Prepared.{Prepared}
 use Rattle.link.proofs.Answers.{no-runs}
-use Rattle.link.proofs.Verdicts.{Verdict, Called, seal-verdict, open-verdict}
+use Rattle.link.proofs.Verdicts.{Verdict, SealFits, OpenFits, seal-verdict, open-verdict}
 use Rattle.demands.specs.Calls.{keyKnown, roundsKnown, formula, formulaWith}
 use Rattle.demands.proofs.Demand1.{stop-is, answers-not-7, open-not-7}
 
@@ -49,7 +49,7 @@ module _ (form : ℕ) (known : Bool) (nonce ad : List ℕ) (t : ℕ) (out : List
   seal-counts m bytes p = record { ran = ran; refused = no-runs r }
     where
       Fits : Type 0
-      Fits = Called form known (length nonce) t (length ad) × (length m ≤ 16384) × (length m + t ≤ length out)
+      Fits = SealFits form known (length nonce) t (length ad) (length m) (length out)
 
       ran : (numberOf r ≡ 0) ⊎ (numberOf r ≡ 7) → runsOf r ≡ k
       ran (inl z) =
@@ -67,7 +67,7 @@ module _ (form : ℕ) (known : Bool) (nonce ad : List ℕ) (t : ℕ) (out : List
       }
     where
       Fits : Type 0
-      Fits = Called form known (length nonce) t (length ad) × (t ≤ length s) × (length s ≤ 16384 + t) × (length s - t ≤ length out)
+      Fits = OpenFits form known (length nonce) t (length ad) (length s) (length out)
 
       checks : Check
       checks = callCheck form known (length nonce) t (length ad) (openNext t (length s) (length out))

@@ -3,7 +3,7 @@
 use mathlib.Core.Path.{_≡_, refl, sym, ap, _∙_}
 use mathlib.Core.Bool.{Bool}
 use mathlib.Core.List.{List}
-use Prim.Native.Nat.{ℕ, _+_, _-_, _≤_}
+use Prim.Native.Nat.{ℕ, _-_}
 use native.Mathlib.Omega.{arith}
 use lib.ListN.{length}
 use Rattle.lists.specs.Zeros.{zeros}
@@ -20,7 +20,7 @@ use Rattle.link.specs.Prepared.{cipherOf}
 use Rattle.link.specs.Promises.{sealing, sealRuns, openRuns, SealsBy, Seals, openedAs, OpensBy, Opens, sealingWith, sealRunsWith, openRunsWith, SealsWith, OpensWith}
 use Rattle.link.specs.declared.answer.Answer.{Answer}
 use Rattle.link.specs.declared.prepared.Prepared.{Prepared}
-use Rattle.link.proofs.Verdicts.{Verdict, passes, stops, Called, open-verdict}
+use Rattle.link.proofs.Verdicts.{Verdict, passes, stops, OpenFits, open-verdict}
 use Rattle.link.proofs.Entries.{aes-cipher, aes-ta}
 
 -- a check that passes does not stop
@@ -63,7 +63,7 @@ module _ (E : List ℕ → List ℕ) (e : IsCipher E) (q : List ℕ) (form : ℕ
   one n is = go (open-verdict form known (length nonce) t (length ad) (length s) (length out))
     where
       go : Verdict
-          (Called form known (length nonce) t (length ad) × (t ≤ length s) × (length s ≤ 16384 + t) × (length s - t ≤ length out))
+          (OpenFits form known (length nonce) t (length ad) (length s) (length out))
           (length s - t) checks
           → (o p : Opened) → Allowed (otrFrom E q (formOf form) nonce ad t) s o → Allowed (otrFrom E q (formOf form) nonce ad t) s p → o ≡ p
       go (passes f w) = otr-one-answer E e q (formOf form) nonce ad t h (f .0 .nonces .1) (f .0 .tags .1) s

@@ -5,7 +5,7 @@ use mathlib.Core.Path.{_≡_, refl, sym, ap, subst, _∙_}
 use mathlib.Core.Bool.{Bool, true, false}
 use mathlib.Core.Logic.{_⊎_, inl, inr}
 use mathlib.Core.List.{List, [], _∷_}
-use Prim.Native.Nat.{ℕ, _+_, _-_, _≤_}
+use Prim.Native.Nat.{ℕ, _+_, _-_}
 use native.Mathlib.Omega.{arith}
 use lib.Dec.{leb}
 use lib.ListN.{length}
@@ -19,7 +19,7 @@ use Rattle.link.specs.declared.answer.Answer.{Answer}
 use Rattle.link.specs.declared.answer.Answer.the-variants.{Key, Nonce, Tag, Data, Length, Room, Form}
 use Rattle.link.specs.declared.prepared.Prepared.{Prepared}
 use Rattle.link.proofs.Answers.{Answered, done, forged, refusal, answered}
-use Rattle.link.proofs.Verdicts.{Verdict, passes, stops, Called, open-verdict}
+use Rattle.link.proofs.Verdicts.{Verdict, passes, stops, OpenFits, open-verdict}
 use Rattle.demands.specs.Calls.{firstFailing, keyKnown, roundsKnown, sealChecks, openChecks}
 use Rattle.demands.proofs.Decided.{pass-or-stop}
 
@@ -181,7 +181,7 @@ module _ (form : ℕ) (known : Bool) (nonce ad s : List ℕ) (t : ℕ) (out : Li
       checks = callCheck form known (length nonce) t (length ad) (openNext t (length s) (length out))
 
       Fits : Type 0
-      Fits = Called form known (length nonce) t (length ad) × (t ≤ length s) × (length s ≤ 16384 + t) × (length s - t ≤ length out)
+      Fits = OpenFits form known (length nonce) t (length ad) (length s) (length out)
 
       verdict : Verdict Fits (length s - t) checks
       verdict = open-verdict form known (length nonce) t (length ad) (length s) (length out)

@@ -27,7 +27,7 @@ use Rattle.link.specs.declared.answer.Answer.{Answer}
 use Rattle.link.specs.declared.answer.Answer.the-variants.{Done, Key, Forged}
 use Rattle.link.specs.declared.prepared.Prepared.{Prepared}
 use Rattle.link.proofs.Answers.{Answered, done, forged, refusal, answered, stands-for, parts, no-runs}
-use Rattle.link.proofs.Verdicts.{Verdict, passes, stops, Called, seal-verdict, open-verdict}
+use Rattle.link.proofs.Verdicts.{Verdict, passes, stops, SealFits, OpenFits, seal-verdict, open-verdict}
 use Rattle.link.proofs.Entries.{rounds-known, cipher-is}
 use Rattle.demands.specs.Calls.{keyKnown, OneOf}
 use Rattle.demands.proofs.Decided.{pass-or-stop, seals-decided, opens-decided}
@@ -150,7 +150,7 @@ module _ (form : ℕ) (key nonce ad : List ℕ) (t : ℕ) (out : List ℕ) where
       c : Check
       c = callCheck form (knownKey (length key)) (length nonce) t (length ad) (sealNext t (length m) (length out))
 
-      verdict : Verdict (Called form (knownKey (length key)) (length nonce) t (length ad) × (length m ≤ 16384) × (length m + t ≤ length out)) (length m + t) c
+      verdict : Verdict (SealFits form (knownKey (length key)) (length nonce) t (length ad) (length m) (length out)) (length m + t) c
       verdict = seal-verdict form (knownKey (length key)) (length nonce) t (length ad) (length m) (length out)
 
   pub opens-as-key : (s : List ℕ) (r : Answer) (after : List ℕ) → OpensWith form (p key) nonce ad s t out r after → Opens form key nonce ad s t out (more zeroRun r) after
@@ -168,7 +168,7 @@ module _ (form : ℕ) (key nonce ad : List ℕ) (t : ℕ) (out : List ℕ) where
       c : Check
       c = callCheck form (knownKey (length key)) (length nonce) t (length ad) (openNext t (length s) (length out))
 
-      verdict : Verdict (Called form (knownKey (length key)) (length nonce) t (length ad) × (t ≤ length s) × (length s ≤ 16384 + t) × (length s - t ≤ length out)) (length s - t) c
+      verdict : Verdict (OpenFits form (knownKey (length key)) (length nonce) t (length ad) (length s) (length out)) (length s - t) c
       verdict = open-verdict form (knownKey (length key)) (length nonce) t (length ad) (length s) (length out)
 
 -- ---- so the answers r under the record and r′ under the key are alike

@@ -8,6 +8,7 @@ use native.Mathlib.Omega.{arith}
 use lib.Dec.{eqb}
 use lib.ListN.{length}
 use borrow.Author.Tests.{eqb-true}
+use Rattle.lists.specs.Lay.{lay}
 use Rattle.lists.specs.Zeros.{zeros}
 use Rattle.aes.specs.Cipher.{cipher}
 use Rattle.aes.specs.Expansion.{keyRounds, keyExpansion, aes}
@@ -17,13 +18,13 @@ use Rattle.mode.specs.Form.{Form, formOf}
 use Rattle.mode.specs.Masks.{IsCipher}
 use Rattle.mode.specs.Data.{firstQ, qInputs, withData}
 use Rattle.mode.specs.Sealing.{dataTag, otrFrom, fromInputs}
-use Rattle.mode.specs.Opening.{Opened, accepted, refused}
+use Rattle.mode.specs.Opening.{Opened, accepted, refused, Allowed}
 use Rattle.mode.specs.Undoing.{foundFromInputs}
 use Rattle.mode.proofs.Own.{own-otr, own-runs, own-found-runs}
 use Rattle.passes.specs.Shown.{flag}
 use Rattle.pairs.proofs.Cipher.{is-cipher, length-ta}
 use Rattle.link.specs.Answers.{numberOf}
-use Rattle.link.specs.Checks.{Check, pass, stop, knownKey, knownRounds, asAnswer}
+use Rattle.link.specs.Checks.{Check, pass, stop, knownKey, knownRounds, callCheck, asAnswer}
 use Rattle.link.specs.Prepared.{cipherOf, ownOf}
 use Rattle.link.specs.Promises.{sealing, sealRuns, openRuns, SealsBy, openedAs, OpensBy, sealingWith, sealRunsWith, openRunsWith}
 use Rattle.link.specs.declared.answer.Answer.{Answer}
@@ -32,20 +33,46 @@ use Rattle.link.specs.declared.prepared.Own.{Own}
 use Rattle.link.proofs.Known.{size-known, known-rounds}
 use Rattle.link.proofs.Verdicts.{Verdict, passes, stops}
 
--- ---- the checks
--- an answer of the checks that is not done: the call stops with it, and the buffer stays
-pub seal-stopped : (c : Check) (k : ℕ) (bytes out : List ℕ) (r : Answer) → r ≡ asAnswer c → (numberOf r ≡ 0 → ⊥) → SealsBy c k bytes out r out
-seal-stopped (pass n) k bytes out r e z = absurd (z (ap numberOf e))
-seal-stopped (stop x) k bytes out r e z = (e, refl)
+-- ---- the checks, as an entry point goes by them: whether the key is known was looked at before, and k is what that gave
+seal-stopped : (c : Check) (j : ℕ) (bytes out : List ℕ) (r : Answer) → r ≡ asAnswer c → (numberOf r ≡ 0 → ⊥) → SealsBy c j bytes out r out
+seal-stopped (pass i) j bytes out r e z = absurd (z (ap numberOf e))
+seal-stopped (stop x) j bytes out r e z = (e, refl)
 
-pub open-stopped : (c : Check) (k : ℕ) (seal : List ℕ → List ℕ) (s out : List ℕ) (r : Answer) → r ≡ asAnswer c → (numberOf r ≡ 0 → ⊥) → OpensBy c k seal s out r out
-open-stopped (pass n) k seal s out r e z = absurd (z (ap numberOf e))
-open-stopped (stop x) k seal s out r e z = (e, refl)
+open-stopped : (c : Check) (j : ℕ) (seal : List ℕ → List ℕ) (s out : List ℕ) (r : Answer) → r ≡ asAnswer c → (numberOf r ≡ 0 → ⊥) → OpensBy c j seal s out r out
+open-stopped (pass i) j seal s out r e z = absurd (z (ap numberOf e))
+open-stopped (stop x) j seal s out r e z = (e, refl)
 
--- an answer of the checks that is done: they have passed, and what they make sure of is known
-pub went-on : {P : Type 0} {n : ℕ} {c : Check} → Verdict P n c → (r : Answer) → r ≡ asAnswer c → numberOf r ≡ 0 → P × (c ≡ pass n)
+went-on : {P : Type 0} {i : ℕ} {c : Check} → Verdict P i c → (r : Answer) → r ≡ asAnswer c → numberOf r ≡ 0 → P × (c ≡ pass i)
 went-on (passes p e) r q z = (p, e)
 went-on (stops x y e) r q z = absurd (y (sym (ap (λ (c : Check). numberOf (asAnswer c)) e) ∙ sym (ap numberOf q) ∙ z))
+
+module _ (form : ℕ) (k known : Bool) (same : k ≡ known) (nonce t ad : ℕ) (next : Check) (r : Answer) (is : r ≡ asAnswer (callCheck form k nonce t ad next))
+    (n : ℕ) (number : n ≡ numberOf r) where
+  answer-is : r ≡ asAnswer (callCheck form known nonce t ad next)
+  answer-is = is ∙ ap (λ (b : Bool). asAnswer (callCheck form b nonce t ad next)) same
+
+  -- an answer that is not done: the call stops with it, and the buffer stays
+  pub seal-refused : (n ≡ 0 → ⊥) → (j : ℕ) (bytes out : List ℕ) → SealsBy (callCheck form known nonce t ad next) j bytes out r out
+  seal-refused z j bytes out = seal-stopped (callCheck form known nonce t ad next) j bytes out r answer-is (λ h. z (number ∙ h))
+
+  pub open-refused : (n ≡ 0 → ⊥) → (j : ℕ) (seal : List ℕ → List ℕ) (s out : List ℕ) → OpensBy (callCheck form known nonce t ad next) j seal s out r out
+  open-refused z j seal s out = open-stopped (callCheck form known nonce t ad next) j seal s out r answer-is (λ h. z (number ∙ h))
+
+  -- one that is done: they have passed, and what they make sure of is known
+  pub admitted : {P : Type 0} {i : ℕ} → Verdict P i (callCheck form known nonce t ad next) → n ≡ 0 → P × (callCheck form known nonce t ad next ≡ pass i)
+  admitted v z = went-on v r answer-is (sym number ∙ z)
+
+-- what the checks came to, and the runs and the bytes by other names
+pub come-to-seal : (c : Check) (i : ℕ) → c ≡ pass i → (j k : ℕ) (bytes bytes′ out : List ℕ) (r : Answer) (after : List ℕ)
+    → j ≡ k → bytes ≡ bytes′ → SealsBy (pass i) j bytes out r after → SealsBy c k bytes′ out r after
+come-to-seal c i come j k bytes bytes′ out r after runs same p =
+    subst (λ (x : Check). SealsBy x k bytes′ out r after) (sym come) (p .0 ∙ ap (Done i) runs, p .1 ∙ ap (λ (b : List ℕ). lay 0 b out) same)
+
+pub come-to-open : (c : Check) (i : ℕ) → c ≡ pass i → (j k : ℕ) (seal seal′ : List ℕ → List ℕ) (s out : List ℕ) (r : Answer) (after : List ℕ)
+    → j ≡ k → seal ≡ seal′ → OpensBy (pass i) j seal s out r after → OpensBy c k seal′ s out r after
+come-to-open c i come j k seal seal′ s out r after runs same (o, a, is, b) =
+    subst (λ (x : Check). OpensBy x k seal′ s out r after) (sym come)
+    (o, subst (λ (f : List ℕ → List ℕ). Allowed f s o) same a, is ∙ ap (λ (x : ℕ). openedAs i x o) runs, b)
 
 -- ---- the key
 -- a round count that is known
@@ -85,9 +112,10 @@ module _ (key : List ℕ) (known : knownKey (length key) ≡ true) where
   pub cipher-is : cipher (expanded key .rounds) (expanded key .words) ≡ aes key
   cipher-is = fun-ext (keyed .ciphers)
 
-  -- under the record of its own a call with a raw key seals and opens as under the key, and its runs and those for the record are the key's
+  -- under the record of its own a call with a raw key seals and opens as under the key, and its runs and those for the record are the key's.
+  -- c is what the checks came to, i bytes
   module _ (form : ℕ) (nonce ad : List ℕ) (t : ℕ) (o : Own) (is : o ≡ ownOf key (withData ad)) where
-    -- what f gives of the record, of whatever cipher the record's first mask is not
+    -- what f gives of the record's cipher and its first mask
     under-key : {A : Type 0} (f : (List ℕ → List ℕ) → List ℕ → A) → f (cipherOf (o .key)) (o .key .zero) ≡ f (aes key) (firstQ (aes key) (withData ad))
     under-key f = ap (λ (x : Own). f (cipherOf (x .key)) (x .key .zero)) is ∙ ap (λ (E : List ℕ → List ℕ). f E (firstQ (aes key) (withData ad))) cipher-is
 
@@ -97,19 +125,19 @@ module _ (key : List ℕ) (known : knownKey (length key) ≡ true) where
     runs-of : o .runs ≡ length (qInputs (withData ad))
     runs-of = ap (λ (x : Own). x .runs) is
 
-    pub own-seals : (c : Check) (m out : List ℕ) (r : Answer) (after : List ℕ)
-        → SealsBy c (o .runs + sealRunsWith form (o .key) nonce ad t m) (sealingWith form (o .key) nonce ad t m) out r after
+    pub own-seals : (c : Check) (i : ℕ) → c ≡ pass i → (m out : List ℕ) (r : Answer) (after : List ℕ)
+        → SealsBy (pass i) (o .runs + sealRunsWith form (o .key) nonce ad t m) (sealingWith form (o .key) nonce ad t m) out r after
         → SealsBy c (sealRuns form key nonce ad t m) (sealing form key nonce ad t m) out r after
-    own-seals c m out r after p =
+    own-seals c i come m out r after p =
         let runs-are = ap₂ _+_ runs-of (under-key (λ E q. length (fromInputs E q (formOf form) nonce ad t m))) ∙ own-runs (aes key) (formOf form) nonce t ad m in
-        subst (λ (x : ℕ × (List ℕ → List ℕ)). SealsBy c (x .0) (x .1 m) out r after) (ap₂ (λ a b. (a, b)) runs-are sealing-is) p
+        come-to-seal c i come _ _ _ _ out r after runs-are (ap (λ (seal : List ℕ → List ℕ). seal m) sealing-is) p
 
-    pub own-opens : (c : Check) (s out : List ℕ) (r : Answer) (after : List ℕ)
-        → OpensBy c (o .runs + openRunsWith form (o .key) nonce ad t s) (sealingWith form (o .key) nonce ad t) s out r after
+    pub own-opens : (c : Check) (i : ℕ) → c ≡ pass i → (s out : List ℕ) (r : Answer) (after : List ℕ)
+        → OpensBy (pass i) (o .runs + openRunsWith form (o .key) nonce ad t s) (sealingWith form (o .key) nonce ad t) s out r after
         → OpensBy c (openRuns form key nonce ad t s) (sealing form key nonce ad t) s out r after
-    own-opens c s out r after p =
+    own-opens c i come s out r after p =
         let runs-are = ap₂ _+_ runs-of (under-key (λ E q. length (foundFromInputs E q (formOf form) nonce ad t s))) ∙ own-found-runs (aes key) (formOf form) nonce t ad s in
-        subst (λ (x : ℕ × (List ℕ → List ℕ)). OpensBy c (x .0) (x .1) s out r after) (ap₂ (λ a b. (a, b)) runs-are sealing-is) p
+        come-to-open c i come _ _ _ _ s out r after runs-are sealing-is p
 
 pub aes-cipher : (key : List ℕ) → IsCipher (aes key)
 unfolding aes

@@ -48,6 +48,13 @@ pub record Called (form : ℕ) (k : Bool) (nonce t ad : ℕ) : Type 0 where
   pub tags : (4 ≤ t) × (t ≤ 16)
   pub data-most : ad ≤ 4096
 
+-- and all seven: the message, or the sealed bytes, within their limits too, and room for what is written
+abbrev pub SealFits : ℕ → Bool → ℕ → ℕ → ℕ → ℕ → ℕ → Type 0
+SealFits form k nonce t ad m o = Called form k nonce t ad × (m ≤ 16384) × (m + t ≤ o)
+
+abbrev pub OpenFits : ℕ → Bool → ℕ → ℕ → ℕ → ℕ → ℕ → Type 0
+OpenFits form k nonce t ad s o = Called form k nonce t ad × (t ≤ s) × (s ≤ 16384 + t) × (s - t ≤ o)
+
 module _ (form : ℕ) (k : Bool) (nonce t ad : ℕ) where
   -- whatever comes after them
   after : (P : Type 0) (n : ℕ) (c : Check) → (Called form k nonce t ad → Verdict P n c) → Verdict P n (callCheck form k nonce t ad c)
@@ -70,18 +77,16 @@ module _ (form : ℕ) (k : Bool) (nonce t ad : ℕ) where
       go (passes p e) = p
       go (stops r z e) = absurd (z (sym (ap (λ (c : Check). numberOf (asAnswer c)) e) ∙ h))
 
-  pub seal-verdict : (m o : ℕ)
-      → Verdict (Called form k nonce t ad × (m ≤ 16384) × (m + t ≤ o)) (m + t) (callCheck form k nonce t ad (sealNext t m o))
+  pub seal-verdict : (m o : ℕ) → Verdict (SealFits form k nonce t ad m o) (m + t) (callCheck form k nonce t ad (sealNext t m o))
   seal-verdict m o =
-      after (Called form k nonce t ad × (m ≤ 16384) × (m + t ≤ o)) (m + t) (sealNext t m o) λ h.
+      after (SealFits form k nonce t ad m o) (m + t) (sealNext t m o) λ h.
       checked (leb m 16384) Length (λ z. omega arith) λ l.
       checked (leb (m + t) o) Room (λ z. omega arith) λ r.
       passes (h, leb-true m 16384 l, leb-true (m + t) o r) refl
 
-  pub open-verdict : (s o : ℕ)
-      → Verdict (Called form k nonce t ad × (t ≤ s) × (s ≤ 16384 + t) × (s - t ≤ o)) (s - t) (callCheck form k nonce t ad (openNext t s o))
+  pub open-verdict : (s o : ℕ) → Verdict (OpenFits form k nonce t ad s o) (s - t) (callCheck form k nonce t ad (openNext t s o))
   open-verdict s o =
-      after (Called form k nonce t ad × (t ≤ s) × (s ≤ 16384 + t) × (s - t ≤ o)) (s - t) (openNext t s o) λ h.
+      after (OpenFits form k nonce t ad s o) (s - t) (openNext t s o) λ h.
       checked (from-to t (16384 + t) s) Length (λ z. omega arith) λ l.
       checked (leb (s - t) o) Room (λ z. omega arith) λ r.
       passes (h, within t (16384 + t) s l .0, within t (16384 + t) s l .1, leb-true (s - t) o r) refl
