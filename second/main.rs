@@ -18,6 +18,7 @@ mod hex;
 mod key;
 mod known;
 mod message_pass;
+mod night;
 mod otr;
 mod prepared;
 #[cfg(test)]
@@ -82,6 +83,7 @@ fn run(words: &[String]) -> Result<String, Failure> {
         ("firmware", [form, requests, answers]) => firmware::command(form, requests, answers),
         ("requests", _) => requests::command(rest),
         ("prepared", _) => prepared::command(rest),
+        ("night", []) => Ok(night::command()),
         ("known", _) => known::command(rest),
         _ => Err(usage()),
     }
@@ -96,6 +98,7 @@ fn usage() -> Failure {
                 \u{20}      second firmware FORM FILE_REQUESTS FILE_ANSWERS\n\
                 \u{20}      second requests SEED COUNT FILE_REQUESTS FILE_ANSWERS\n\
                 \u{20}      second prepared SEED COUNT FILE_REQUESTS FILE_ANSWERS\n\
+                \u{20}      second night\n\
                 \u{20}      second known FILE...";
     bad_input(text.to_string())
 }

@@ -2,11 +2,9 @@
 use mathlib.Core.Path.{_≡_}
 use Prim.Native.Nat.{ℕ, _+_, _≤_, _<_}
 use Rattle.console.specs.declared.fields.Byte.{Byte}
-use Rattle.console.specs.declared.fields.Byte.the-variants.{Value as ByteValue, Bad as NoByte}
+use Rattle.console.specs.declared.fields.Byte.the-variants.{Value, Bad as NoByte}
 use Rattle.console.specs.declared.fields.Field.{Field}
 use Rattle.console.specs.declared.fields.Field.the-variants.{Bytes, Number, Bad as NoField}
-use Rattle.console.specs.declared.fields.Parsed.{Parsed}
-use Rattle.console.specs.declared.fields.Parsed.the-variants.{Value, Bad}
 use Rattle.console.specs.declared.fields.Part.{Part}
 use Rattle.console.specs.declared.request.Key.{Key}
 use Rattle.console.specs.declared.request.Key.the-variants.{Raw, Prepared}
@@ -18,13 +16,8 @@ use Rattle.console.specs.declared.request.Strings.{Strings}
 
 -- a byte that was read is below n
 abbrev pub Below : ℕ → Byte → Type 0
-Below n (ByteValue b) = b < n
+Below n (Value b) = b < n
 Below n NoByte = Unit
-
--- a number that was read is at most n
-abbrev pub AtMost : ℕ → Parsed → Type 0
-AtMost n (Value m) = m ≤ n
-AtMost n Bad = Unit
 
 -- the part lies in a line of n bytes
 abbrev pub Inside : ℕ → Part → Type 0

@@ -1,7 +1,9 @@
 // The fields of a request's line.
 ghost use Prim.Native.Nat.{_+_, _≤_};
 ghost use lib.ListN.{length};
-ghost use Rattle.console.specs.Bounds.{Below, AtMost, Read};
+ghost use Rattle.digits.specs.Bounds.{AtMost};
+ghost use Rattle.console.specs.Bounds.{Below, Read};
+use digits::Parsed;
 
 // So many bytes of a line, from an index on.
 pub struct Part {
@@ -18,11 +20,6 @@ pub enum Field {
 
 enum Byte {
     Value(u8),
-    Bad,
-}
-
-enum Parsed {
-    Value(usize),
     Bad,
 }
 
@@ -48,7 +45,7 @@ pub fn number(line: &[u8], from: usize) -> Field
     if line.len() < to {
         return Field::Bad;
     }
-    match decimal(&line[from..to]) {
+    match digits::decimal(&line[from..to]) {
         Parsed::Value(value) => Field::Number(value, to + 1),
         Parsed::Bad => Field::Bad,
     }
@@ -111,27 +108,4 @@ fn hex_value(digit: u8) -> Byte
         b'A'..=b'F' => Byte::Value(digit - b'A' + 10),
         _ => Byte::Bad,
     }
-}
-
-// The number that one to five decimal digits stand for, up to 65535. Zeros may stand in front.
-fn decimal(field: &[u8]) -> Parsed
-    ensures { λ r. ⌜ AtMost 65535 r ⌝ }
-{
-    if field.len() == 0 || 5 < field.len() {
-        return Parsed::Bad;
-    }
-    let mut value = 0;
-    let mut i = 0;
-    while i < field.len() {
-        let digit = field[i];
-        if digit < b'0' || b'9' < digit {
-            return Parsed::Bad;
-        }
-        value = 10 * value + (digit - b'0') as usize;
-        if 65535 < value {
-            return Parsed::Bad;
-        }
-        i += 1;
-    }
-    Parsed::Value(value)
 }

@@ -11,9 +11,9 @@ mod told;
 
 ghost use Prim.Native.Nat.{_≤_};
 ghost use lib.ListN.{length};
+use digits::Parsed;
 use libc::STDERR_FILENO;
 use libc::STDOUT_FILENO;
-use told::Number;
 
 const PARALLEL: usize = 0;
 
@@ -33,13 +33,13 @@ fn main() {
     if !prepared && !told::is_at(1, b"raw") {
         return usage();
     }
-    let Number::Value(key) = told::number_at(2) else {
+    let Parsed::Value(key) = told::number_at(2) else {
         return usage();
     };
-    let Number::Value(message) = told::number_at(3) else {
+    let Parsed::Value(message) = told::number_at(3) else {
         return usage();
     };
-    let Number::Value(calls) = told::number_at(4) else {
+    let Parsed::Value(calls) = told::number_at(4) else {
         return usage();
     };
     // The program's name is counted too.

@@ -1,10 +1,10 @@
--- `night::told::decimal` is safe and ends. The invariant bounds the value, so that ten times it and a digit fit. Assumes nothing.
+-- `digits::decimal` meets its contract. The invariant bounds the value, so that ten times it and a digit fit. Assumes nothing.
 use Prim.Native.Nat.{_≤_, _-_}
 use native.Mathlib.Omega.{arith}
 use lib.ListN.{length}
 use borrow.Author.Needs.{needs}
-use Rattle.night.proofs.told.decimal.Statement.{statement}
-use Rattle.night.proofs.told.decimal.Tie as tie
+use Rattle.digits.proofs.decimal.Statement.{statement}
+use Rattle.digits.proofs.decimal.Tie as tie
 
 abbrev Inv-loop : tie.InvT-loop
 Inv-loop digits value₀ i₀ value i = value ≤ 65535
