@@ -1,5 +1,5 @@
--- The promises decide: any two results that one of them allows for the same input are equal, answer with its runs and buffer, for every input,
--- under a raw key and under any record. Assumes nothing.
+-- The promises decide: any two results that one of them allows for the same input are equal, answer with its runs and buffer, for
+-- every input, under a raw key and under any record. Assumes nothing.
 use mathlib.Core.Path.{_≡_, refl, sym, ap, _∙_}
 use mathlib.Core.Bool.{Bool}
 use mathlib.Core.List.{List}

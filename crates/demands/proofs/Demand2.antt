@@ -1,6 +1,6 @@
 -- Demand 2: everything within the stated limits is sealed, given room, and the bytes are exactly AES-OTR v3.1 in the form named, over
--- the AES of FIPS 197; opening what was sealed gives the message back. Under a record the bytes are AES-OTR v3.1 over its own cipher, with its
--- own first mask. Assumes nothing.
+-- the AES of FIPS 197; opening what was sealed gives the message back. Under a record the bytes are AES-OTR v3.1 over its own cipher,
+-- with its own first mask. Assumes nothing.
 use mathlib.Core.Path.{_≡_, refl, sym, ap, subst, _∙_}
 use mathlib.Core.Bool.{Bool, true}
 use mathlib.Core.List.{List}
@@ -26,8 +26,8 @@ use Rattle.link.proofs.Entries.{aes-cipher, aes-ta}
 use Rattle.demands.specs.Calls.{keyKnown, roundsKnown, Limits, OneOf}
 use Rattle.demands.proofs.Limits.{known, seal-passes, open-passes}
 
--- ---- for any cipher E, and any first mask q with which TA has 16 bytes, as it has where q has: opening what sealing gives, the message comes
--- back, and nothing else
+-- ---- for any cipher E, and any first mask q with which TA has 16 bytes, as it has where q has: opening what sealing gives, the
+-- message comes back, and nothing else
 module _ (E : List ℕ → List ℕ) (e : IsCipher E) (q : List ℕ) (f : Form) (nonce ad m : List ℕ) (t : ℕ) (h : length (dataTag E q f ad) ≡ 16)
     (hn : length nonce ≤ 15) (ht : t ≤ 16) (out : List ℕ) (r : Answer) (after : List ℕ) where
   pub any-cipher : (k : ℕ) → OpensBy (pass (length m)) k (otrFrom E q f nonce ad t) (otrFrom E q f nonce ad t m) out r after

@@ -1,7 +1,7 @@
--- Demand 3: for inputs that pass checks 8 and 1 to 6, opening answers 7 exactly if no message at all, sealed in the same form under the
--- same key, nonce, associated data and tag length, gives those bytes. When it accepts, it returns the one message that does. This
--- holds for any fixed rule from blocks to blocks put in the cipher's place, and so for that of a record, with its first mask as it stands.
--- Assumes nothing.
+-- Demand 3: for inputs that pass checks 8 and 1 to 6, opening answers 7 exactly if no message at all, sealed in the same form under
+-- the same key, nonce, associated data and tag length, gives those bytes. When it accepts, it returns the one message that does. This
+-- holds for any fixed rule from blocks to blocks put in the cipher's place, and so for that of a record, with its first mask as it
+-- stands. Assumes nothing.
 use mathlib.Core.Path.{_≡_, sym, ap, subst, _∙_}
 use mathlib.Core.Logic.{_↔_}
 use mathlib.Core.List.{List}

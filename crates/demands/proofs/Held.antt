@@ -1,5 +1,5 @@
--- A named record that `prepare` does not give: the round count and the round keys of the named key, with zeros for its first mask. What it
--- seals to is not what it would with E(zero) in their place, in either form. Assumes nothing.
+-- A named record that `prepare` does not give: the round count and the round keys of the named key, with zeros for its first mask.
+-- What it seals to is not what it would with E(zero) in their place, in either form. Assumes nothing.
 use mathlib.Core.Path.{_≡_, refl, sym, ap, ap₂, fun-ext, _∙_}
 use mathlib.Core.List.{List, _++_}
 use Prim.Native.Nat.{ℕ}
@@ -45,7 +45,8 @@ w-long = refl
 cipher-held : (q : List ℕ) → cipherOf (held q) ≡ E
 cipher-held q = fun-ext (λ x. cipher-front w (zeros 64) 10 x (omega (arith, w-long)))
 
--- ---- what is computed: E(zero); and for data of one byte, TA in both forms and the first byte of E(U) in the serial one, from E(zero) and from zeros
+-- ---- what is computed: E(zero); and for data of one byte, TA in both forms and the first byte of E(U) in the serial one, from
+-- E(zero) and from zeros
 abbrev own : List ℕ
 own = bytes 16 0x66e94bd4ef8a2c3b884cfa59ca342b2e
 

@@ -1,5 +1,6 @@
--- Document 02, wish 9: what preparing gives; and for a record that it gave, the answers are those of its key, in number, length and buffer, for
--- every input. The runs are fewer by the zero block's one where there is associated data, and equal where there is none. Assumes nothing.
+-- Document 02, wish 9: what preparing gives; and for a record that it gave, the answers are those of its key, in number, length and
+-- buffer, for every input. The runs are fewer by the zero block's one where there is associated data, and equal where there is none.
+-- Assumes nothing.
 use mathlib.Core.Path.{_≡_, refl, sym, ap, subst, _∙_}
 use mathlib.Core.Bool.{Bool, true, false}
 use mathlib.Core.Logic.{_⊎_, inl, inr}
@@ -10,7 +11,6 @@ use native.Mathlib.Omega.{arith}
 use lib.ListN.{length, length-append}
 use Rattle.lists.specs.Lay.{lay}
 use Rattle.lists.specs.Zeros.{zeros}
-use Rattle.aes.specs.Cipher.{cipher}
 use Rattle.aes.specs.Expansion.{aes}
 use Rattle.aes.specs.Key.{expanded}
 use Rattle.mode.specs.Form.{formOf}
@@ -47,13 +47,13 @@ pub refuses : (key : List ℕ) → keyKnown key ≡ false
 unfolding preparation
 refuses key h = ap (λ (b : Bool). preparedIf b key) h
 
--- ---- the record of a key
+-- ---- the record that `prepare` gives for a key
 module _ (key : List ℕ) where
-  abbrev pub p : Prepared
-  p = preparation key .key
+  abbrev pub prepared : Prepared
+  prepared = preparation key .key
 
   -- check 1 comes to the same
-  known-alike : knownRounds (p .rounds) ≡ knownKey (length key)
+  known-alike : knownRounds (prepared .rounds) ≡ knownKey (length key)
   unfolding preparation
   known-alike = go (knownKey (length key)) refl
     where
@@ -63,7 +63,7 @@ module _ (key : List ℕ) where
 
   -- and where it passes, the cipher and the first mask are the key's
   module _ (h : knownKey (length key) ≡ true) where
-    under-key : {A : Type 0} (f : (List ℕ → List ℕ) → List ℕ → A) → f (cipherOf p) (p .zero) ≡ f (aes key) (aes key (zeros 16))
+    under-key : {A : Type 0} (f : (List ℕ → List ℕ) → List ℕ → A) → f (cipherOf prepared) (prepared .zero) ≡ f (aes key) (aes key (zeros 16))
     unfolding preparation
     under-key f =
         ap (λ (b : Bool). f (cipherOf (preparedIf b key .key)) (preparedIf b key .key .zero)) h
@@ -71,7 +71,7 @@ module _ (key : List ℕ) where
 
 -- ---- an answer with z runs more
 module _ (z : ℕ) where
-  abbrev more : Answer → Answer
+  abbrev pub more : Answer → Answer
   more r = answerOf (numberOf r) (lengthOf r) (z + runsOf r)
 
   -- number and length stay, and so does an answer that ran no cipher
@@ -126,25 +126,25 @@ module _ {P : Type 0} {n : ℕ} (c : Check) (v : Verdict P n c) where
       go (passes q w) = q
       go (stops x z w) = absurd (pass-or-stop i x (sym e ∙ w))
 
--- ---- under the record of a key: with the zero block's run, where there is data, the answer is one that the key's promise allows
+-- the zero block's run, which a raw key's call has where there is data; and with it the runs that it has with its first mask at hand
+abbrev pub zeroRun : List ℕ → ℕ
+zeroRun ad = length (qInputs (withData ad))
+
+and-zero : (ad : List ℕ) (k : ℕ) (own : List (List ℕ)) → k ≡ length own → zeroRun ad + k ≡ length (qInputs (withData ad) ++ own)
+and-zero ad k own h = ap (λ (i : ℕ). zeroRun ad + i) h ∙ sym (length-append (qInputs (withData ad)) own)
+
+-- ---- under the record of a key: with the zero block's run the answer is one that the key's promise allows
 module _ (form : ℕ) (key nonce ad : List ℕ) (t : ℕ) (out : List ℕ) where
-  abbrev pub zeroRun : ℕ
-  zeroRun = length (qInputs (withData ad))
-
-  -- the runs for the zero block, and those with the first mask at hand
-  and-zero : (k : ℕ) (own : List (List ℕ)) → k ≡ length own → zeroRun + k ≡ length (qInputs (withData ad) ++ own)
-  and-zero k own h = ap (λ (i : ℕ). zeroRun + i) h ∙ sym (length-append (qInputs (withData ad)) own)
-
-  pub seals-as-key : (m : List ℕ) (r : Answer) (after : List ℕ) → SealsWith form (p key) nonce ad m t out r after → Seals form key nonce ad m t out (more zeroRun r) after
+  pub seals-as-key : (m : List ℕ) (r : Answer) (after : List ℕ) → SealsWith form (prepared key) nonce ad m t out r after → Seals form key nonce ad m t out (more (zeroRun ad) r) after
   unfolding Seals SealsWith
   seals-as-key m r after h =
-      more-seals zeroRun c (sealRunsWith form (p key) nonce ad t m) (sealRuns form key nonce ad t m) (sealingWith form (p key) nonce ad t m) (sealing form key nonce ad t m) out r after
-      (stopped c verdict zeroRun (seal-not-7 form (knownKey (length key)) nonce ad m t out))
+      more-seals (zeroRun ad) c (sealRunsWith form (prepared key) nonce ad t m) (sealRuns form key nonce ad t m) (sealingWith form (prepared key) nonce ad t m) (sealing form key nonce ad t m) out r after
+      (stopped c verdict (zeroRun ad) (seal-not-7 form (knownKey (length key)) nonce ad m t out))
       (λ n e. let is = passed c verdict n e .0 .known in (
-        and-zero _ (fromInputs (aes key) (aes key (zeros 16)) (formOf form) nonce ad t m) (under-key key is (λ E q. length (fromInputs E q (formOf form) nonce ad t m))),
+        and-zero ad _ (fromInputs (aes key) (aes key (zeros 16)) (formOf form) nonce ad t m) (under-key key is (λ E q. length (fromInputs E q (formOf form) nonce ad t m))),
         under-key key is (λ E q. otrFrom E q (formOf form) nonce ad t m),
       ))
-      (subst (λ (b : Bool). SealsBy (callCheck form b (length nonce) t (length ad) (sealNext t (length m) (length out))) (sealRunsWith form (p key) nonce ad t m) (sealingWith form (p key) nonce ad t m) out r after)
+      (subst (λ (b : Bool). SealsBy (callCheck form b (length nonce) t (length ad) (sealNext t (length m) (length out))) (sealRunsWith form (prepared key) nonce ad t m) (sealingWith form (prepared key) nonce ad t m) out r after)
       (known-alike key) h)
     where
       c : Check
@@ -153,16 +153,16 @@ module _ (form : ℕ) (key nonce ad : List ℕ) (t : ℕ) (out : List ℕ) where
       verdict : Verdict (SealFits form (knownKey (length key)) (length nonce) t (length ad) (length m) (length out)) (length m + t) c
       verdict = seal-verdict form (knownKey (length key)) (length nonce) t (length ad) (length m) (length out)
 
-  pub opens-as-key : (s : List ℕ) (r : Answer) (after : List ℕ) → OpensWith form (p key) nonce ad s t out r after → Opens form key nonce ad s t out (more zeroRun r) after
+  pub opens-as-key : (s : List ℕ) (r : Answer) (after : List ℕ) → OpensWith form (prepared key) nonce ad s t out r after → Opens form key nonce ad s t out (more (zeroRun ad) r) after
   unfolding Opens OpensWith
   opens-as-key s r after h =
-      more-opens zeroRun c (openRunsWith form (p key) nonce ad t s) (openRuns form key nonce ad t s) (sealingWith form (p key) nonce ad t) (sealing form key nonce ad t) s out r after
-      (stopped c verdict zeroRun (open-not-7 form (knownKey (length key)) nonce ad s t out))
+      more-opens (zeroRun ad) c (openRunsWith form (prepared key) nonce ad t s) (openRuns form key nonce ad t s) (sealingWith form (prepared key) nonce ad t) (sealing form key nonce ad t) s out r after
+      (stopped c verdict (zeroRun ad) (open-not-7 form (knownKey (length key)) nonce ad s t out))
       (λ n e. let is = passed c verdict n e .0 .known in (
-        and-zero _ (foundFromInputs (aes key) (aes key (zeros 16)) (formOf form) nonce ad t s) (under-key key is (λ E q. length (foundFromInputs E q (formOf form) nonce ad t s))),
+        and-zero ad _ (foundFromInputs (aes key) (aes key (zeros 16)) (formOf form) nonce ad t s) (under-key key is (λ E q. length (foundFromInputs E q (formOf form) nonce ad t s))),
         under-key key is (λ E q. otrFrom E q (formOf form) nonce ad t),
       ))
-      (subst (λ (b : Bool). OpensBy (callCheck form b (length nonce) t (length ad) (openNext t (length s) (length out))) (openRunsWith form (p key) nonce ad t s) (sealingWith form (p key) nonce ad t) s out r after)
+      (subst (λ (b : Bool). OpensBy (callCheck form b (length nonce) t (length ad) (openNext t (length s) (length out))) (openRunsWith form (prepared key) nonce ad t s) (sealingWith form (prepared key) nonce ad t) s out r after)
       (known-alike key) h)
     where
       c : Check
@@ -181,9 +181,9 @@ pub record Alike (ad : List ℕ) (r r′ : Answer) (after after′ : List ℕ) :
   pub none : (numberOf r ≡ 0 → ⊥) → (numberOf r ≡ 7 → ⊥) → (runsOf r ≡ 0) × (runsOf r′ ≡ 0)
   pub equal : length ad ≡ 0 → runsOf r ≡ runsOf r′
 
-alike : (ad : List ℕ) (r r′ : Answer) (after after′ : List ℕ) → (more (length (qInputs (withData ad))) r ≡ r′) × (after ≡ after′) → Alike ad r r′ after after′
+alike : (ad : List ℕ) (r r′ : Answer) (after after′ : List ℕ) → (more (zeroRun ad) r ≡ r′) × (after ≡ after′) → Alike ad r r′ after after′
 alike ad r r′ after after′ (is, same) =
-    let z = length (qInputs (withData ad)) in
+    let z = zeroRun ad in
     let number-is = sym (same-number z r .0) ∙ ap numberOf is in
     let without : length ad ≡ 0 → z ≡ 0 = λ h. omega (arith, length-qInputs ad) in
     record {
@@ -196,21 +196,21 @@ alike ad r r′ after after′ (is, same) =
     }
 
 module _ (form : ℕ) (key nonce ad : List ℕ) (t : ℕ) (out : List ℕ) (r r′ : Answer) (after after′ : List ℕ) where
-  pub seals-alike : (m : List ℕ) → SealsWith form (p key) nonce ad m t out r after → Seals form key nonce ad m t out r′ after′ → Alike ad r r′ after after′
+  pub seals-alike : (m : List ℕ) → SealsWith form (prepared key) nonce ad m t out r after → Seals form key nonce ad m t out r′ after′ → Alike ad r r′ after after′
   seals-alike m h h′ =
       alike ad r r′ after after′ (seals-decided form key nonce ad m t out _ r′ after after′ (seals-as-key form key nonce ad t out m r after h) h′)
 
-  pub opens-alike : (s : List ℕ) → OpensWith form (p key) nonce ad s t out r after → Opens form key nonce ad s t out r′ after′ → Alike ad r r′ after after′
+  pub opens-alike : (s : List ℕ) → OpensWith form (prepared key) nonce ad s t out r after → Opens form key nonce ad s t out r′ after′ → Alike ad r r′ after after′
   opens-alike s h h′ =
       alike ad r r′ after after′ (opens-decided form key nonce ad s t out _ r′ after after′ (opens-as-key form key nonce ad t out s r after h) h′)
 
 -- and a wrong program that the key's promise rules out by its number and buffer, that of the record rules out too
 module _ (form : ℕ) (key nonce ad body : List ℕ) (t : ℕ) (out : List ℕ) (Bad : ℕ → List ℕ → Type 0) (r : Answer) (after : List ℕ) (bad : Bad (numberOf r) after) where
-  bad-too : Bad (numberOf (more (zeroRun form key nonce ad t out) r)) after
-  bad-too = subst (λ (i : ℕ). Bad i after) (sym (same-number (zeroRun form key nonce ad t out) r .0)) bad
+  bad-too : Bad (numberOf (more (zeroRun ad) r)) after
+  bad-too = subst (λ (i : ℕ). Bad i after) (sym (same-number (zeroRun ad) r .0)) bad
 
-  pub seals-ruled-out : ((x : Answer) (a : List ℕ) → Bad (numberOf x) a → Seals form key nonce ad body t out x a → ⊥) → SealsWith form (p key) nonce ad body t out r after → ⊥
+  pub seals-ruled-out : ((x : Answer) (a : List ℕ) → Bad (numberOf x) a → Seals form key nonce ad body t out x a → ⊥) → SealsWith form (prepared key) nonce ad body t out r after → ⊥
   seals-ruled-out never h = never _ after bad-too (seals-as-key form key nonce ad t out body r after h)
 
-  pub opens-ruled-out : ((x : Answer) (a : List ℕ) → Bad (numberOf x) a → Opens form key nonce ad body t out x a → ⊥) → OpensWith form (p key) nonce ad body t out r after → ⊥
+  pub opens-ruled-out : ((x : Answer) (a : List ℕ) → Bad (numberOf x) a → Opens form key nonce ad body t out x a → ⊥) → OpensWith form (prepared key) nonce ad body t out r after → ⊥
   opens-ruled-out never h = never _ after bad-too (opens-as-key form key nonce ad t out body r after h)

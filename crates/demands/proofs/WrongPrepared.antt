@@ -1,6 +1,7 @@
--- Wrong programs of document 02's wish 9, each with named inputs at which its result does not meet the promise; in either form. The named
--- inputs are those of `Wrong`, with one byte of associated data, 0, and the record of `Held`. What the promises of a raw key rule out by
--- number and buffer, those of its record rule out too (`Prepared`, `seals-ruled-out` and `opens-ruled-out`). Assumes nothing.
+-- Wrong programs of document 02's wish 9, each with named inputs at which its result does not meet the promise; in either form. The
+-- named inputs are those of `Wrong`, with one byte of associated data, 0, and the record of `Held`. What the promises of a raw key
+-- rule out by number and buffer, those of its record rule out too (`Prepared`, `seals-ruled-out` and `opens-ruled-out`). Assumes
+-- nothing.
 use mathlib.Core.Path.{_≡_, refl, sym, ap, _∙_}
 use mathlib.Core.Logic.{_⊎_, inl, inr}
 use mathlib.Core.List.{List, _++_}

@@ -112,8 +112,8 @@ module _ (key : List ℕ) (known : knownKey (length key) ≡ true) where
   pub cipher-is : cipher (expanded key .rounds) (expanded key .words) ≡ aes key
   cipher-is = fun-ext (keyed .ciphers)
 
-  -- under the record of its own a call with a raw key seals and opens as under the key, and its runs and those for the record are the key's.
-  -- c is what the checks came to, i bytes
+  -- under the record of its own a call with a raw key seals and opens as under the key, and its runs and those for the record are the
+  -- key's. c is what the checks came to, i bytes
   module _ (form : ℕ) (nonce ad : List ℕ) (t : ℕ) (o : Own) (is : o ≡ ownOf key (withData ad)) where
     -- what f gives of the record's cipher and its first mask
     under-key : {A : Type 0} (f : (List ℕ → List ℕ) → List ℕ → A) → f (cipherOf (o .key)) (o .key .zero) ≡ f (aes key) (firstQ (aes key) (withData ad))

@@ -1,4 +1,5 @@
--- The key lengths of check 1 are those that FIPS 197 has rounds for, and these rounds are those that a prepared key may have. Assumes nothing.
+-- The key lengths of check 1 are those that FIPS 197 has rounds for, and these rounds are those that a prepared key may have. Assumes
+-- nothing.
 use mathlib.Core.Path.{_≡_, refl}
 use mathlib.Core.Bool.{Bool, true, false, _||_}
 use Prim.Native.Nat.{ℕ}

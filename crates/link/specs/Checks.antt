@@ -1,6 +1,7 @@
 -- Document 01, 'Numbers a call may carry' and 'What comes back', with the form (document 02, wish 1), nonces of 1 to 15 bytes (wish 5)
--- and prepared keys (wish 9): check 8, and then 1 to 6 in the order of their numbers. They go by the form's number, by lengths alone, of
--- the key, the nonce, the tag, the associated data, the message or the sealed bytes, and the output, and by a prepared key's round count.
+-- and prepared keys (wish 9): check 8, and then 1 to 6 in the order of their numbers. They go by the form's number, by lengths, of the
+-- key, the nonce, the tag, the associated data, the message or the sealed bytes, and the output, and by a prepared key's round count
+-- alone.
 use mathlib.Core.Bool.{Bool, true, false, _&&_, _||_}
 use Prim.Native.Nat.{ℕ, _+_, _-_}
 use lib.Dec.{eqb, leb}
@@ -36,7 +37,7 @@ callCheck form known nonce t ad next =
     (unless (from-to 4 16 t) Tag
     (unless (leb ad 4096) Data next))))
 
--- sealing a message of m bytes into o bytes: checks 5 and 6, and all seven
+-- sealing a message of m bytes into o bytes: checks 5 and 6, and all seven under a raw key and under a prepared one
 abbrev pub sealNext : ℕ → ℕ → ℕ → Check
 sealNext t m o = unless (leb m 16384) Length (unless (leb (m + t) o) Room (pass (m + t)))
 
@@ -46,7 +47,7 @@ sealCheck form key nonce t ad m o = callCheck form (knownKey key) nonce t ad (se
 abbrev pub sealWithCheck : ℕ → ℕ → ℕ → ℕ → ℕ → ℕ → ℕ → Check
 sealWithCheck form rounds nonce t ad m o = callCheck form (knownRounds rounds) nonce t ad (sealNext t m o)
 
--- opening s sealed bytes into o bytes: checks 5 and 6, and all seven
+-- opening s sealed bytes into o bytes: checks 5 and 6, and all seven likewise
 abbrev pub openNext : ℕ → ℕ → ℕ → Check
 openNext t s o = unless (from-to t (16384 + t) s) Length (unless (leb (s - t) o) Room (pass (s - t)))
 

@@ -22,7 +22,8 @@ cipherOf p = cipher (p .rounds) (p .words)
 abbrev pub recordOf : List ℕ → List ℕ → Prepared
 recordOf key q = record { rounds = expanded key .rounds; words = expanded key .words; zero = q }
 
--- ---- what preparing gives: E(zero) for the first mask, after its one run; for a key of another length the refusal 1, and a record of zeros
+-- ---- what preparing gives: E(zero) for the first mask, after its one run; for a key of another length the refusal 1, and a record of
+-- zeros
 abbrev pub preparedIf : Bool → List ℕ → Preparation
 preparedIf true key = record { answer = Done 0 (length (zeros 16 ∷ [])); key = recordOf key (aes key (zeros 16)) }
 preparedIf false key = record { answer = Key; key = record { rounds = 0; words = zeros 240; zero = zeros 16 } }
@@ -30,7 +31,7 @@ preparedIf false key = record { answer = Key; key = record { rounds = 0; words =
 unfoldable pub preparation : List ℕ → Preparation
 preparation key = preparedIf (knownKey (length key)) key
 
--- ---- what a call makes of a raw key, which no promise speaks of: a record of its own, with E(zero) where it is needed, and how many times
--- the cipher ran for it
+-- ---- what a call makes of a raw key, which no promise speaks of: a record of its own, with E(zero) where it is needed, and how many
+-- times the cipher ran for it
 abbrev pub ownOf : List ℕ → Bool → Own
 ownOf key needed = record { key = recordOf key (firstQ (aes key) needed); runs = length (qInputs needed) }

@@ -1,6 +1,6 @@
 -- The definitions computed: the nonce block, held to rows W8 to W10 of document 01 and to document 02's wish 5; and all of them over a
--- small stand-in cipher, held to what the second program gives and to how many times its cipher ran, with the first Q that a call makes and
--- with one that is lent. Assumes nothing.
+-- small stand-in cipher, held to what the second program gives and to how many times its cipher ran, with the first Q that a call
+-- makes and with one that is lent. Assumes nothing.
 use mathlib.Core.Path.{_≡_, refl}
 use mathlib.Core.Bool.{Bool, true, false}
 use mathlib.Core.List.{List, [], _∷_, map, zipWith}

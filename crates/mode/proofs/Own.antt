@@ -1,5 +1,5 @@
--- A call whose first Q is its own. Where the data pass needs it, it is E of the zero block, and so the call is AES-OTR v3.1; where it does
--- not, it does not matter. Assumes nothing.
+-- A call whose first Q is its own. Where the data pass needs it, it is E of the zero block, and so the call is AES-OTR v3.1; where it
+-- does not, it does not matter. Assumes nothing.
 use mathlib.Core.Path.{_≡_, refl, sym, ap, _∙_}
 use mathlib.Core.List.{List, [], _∷_}
 use Prim.Native.Nat.{ℕ, _+_}

@@ -1,6 +1,6 @@
--- AES-OTR v3.1 in both forms, over any cipher E and any first Q, q: its masks are masks, what goes into its tag has 16 bytes, and so every
--- theorem of the mode holds for it. Of q no more is asked than that TA has 16 bytes, as it has where q has (`Data`, `length-dataTag`).
--- Assumes nothing.
+-- AES-OTR v3.1 in both forms, over any cipher E and any first Q, q: its masks are masks, what goes into its tag has 16 bytes, and so
+-- every theorem of the mode holds for it. Of q no more is asked than that TA has 16 bytes, as it has where q has (`Data`,
+-- `length-dataTag`). Assumes nothing.
 use mathlib.Core.Path.{_≡_, refl, ap}
 use mathlib.Core.List.{List, []}
 use Prim.Native.Nat.{ℕ, _+_, _≤_}

@@ -76,11 +76,7 @@ module _ (E : List ℕ → List ℕ) (d : DataPass) where
   taInputs [] = []
   taInputs (b ∷ bs) = endInputs (blocks (length (b ∷ bs)) - 1) (b ∷ bs)
 
--- the first Q, line 2 of both: E of the zero block, where it is needed, and what that hands to the cipher; where it is not, zeros
-abbrev pub firstQ : (List ℕ → List ℕ) → Bool → List ℕ
-firstQ E true = E (zeros 16)
-firstQ E false = zeros 16
-
+-- the first Q, line 2 of both, is E of the zero block: what that hands to the cipher, where it is needed
 abbrev pub qInputs : Bool → List (List ℕ)
 qInputs true = zeros 16 ∷ []
 qInputs false = []
@@ -89,3 +85,8 @@ qInputs false = []
 abbrev pub withData : List ℕ → Bool
 withData [] = false
 withData (b ∷ bs) = true
+
+-- what a call then has for it, and zeros where it needs none; no promise speaks of this
+abbrev pub firstQ : (List ℕ → List ℕ) → Bool → List ℕ
+firstQ E true = E (zeros 16)
+firstQ E false = zeros 16

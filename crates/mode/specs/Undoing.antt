@@ -64,8 +64,8 @@ module _ (E : List ℕ → List ℕ) (k : Masks) (a : List ℕ) (t : ℕ) where
   unfoldable pub opened : List ℕ → Opened
   opened s = answer (same (tag E k a t (plain s)) (drop (length s - t) s)) (plain s)
 
--- what a call of v3.1 finds, over any cipher E and any first Q, q: form, nonce, associated data, tag length, sealed string; and the blocks
--- that it hands to the cipher with q at hand
+-- what a call of v3.1 finds, over any cipher E and any first Q, q: form, nonce, associated data, tag length, sealed string; and the
+-- blocks that it hands to the cipher with q at hand
 module _ (E : List ℕ → List ℕ) (q : List ℕ) (f : Form) (nonce ad : List ℕ) (t : ℕ) where
   abbrev pub foundFrom : List ℕ → Opened
   foundFrom s = opened E (masks E q f nonce ad t) (added E q f nonce ad t) t s
