@@ -58,7 +58,7 @@ module _ (form : ℕ) (named : form ≤ 1) where
       → SealsWith form (held ownMask) nonce (one 0) (one 0) 16 room r after → SealsWith form (held (zeros 16)) nonce (one 0) (one 0) 16 room r′ after → ⊥
   seals-ignoring-mask r r′ after p q = masks-apart (formOf form) (sym (sealed-held ownMask r after p .1) ∙ sealed-held (zeros 16) r′ after q .1)
 
-  -- opening what the record sealed: were it done with the right message, both masks would seal that one alike
+  -- opening what the record sealed, whatever runs it reports: were it done with the right message, both masks would seal that one alike
   pub opens-ignoring-mask : (r r′ : Answer) (after : List ℕ) → numberOf r ≡ numberOf r′
       → OpensWith form (held ownMask) nonce (one 0) (sealedHeld form (zeros 16)) 16 small r after
       → OpensWith form (held (zeros 16)) nonce (one 0) (sealedHeld form (zeros 16)) 16 small r′ after → ⊥

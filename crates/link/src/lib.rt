@@ -78,6 +78,7 @@ pub fn open(
     under::open(form, &tables, made, own.runs, nonce, ad, sealed, tag, out)
 }
 
+// The same two under a prepared key, whoever made it.
 pub fn seal_with(
     form: usize,
     key: Prepared,
