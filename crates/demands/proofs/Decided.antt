@@ -3,8 +3,7 @@
 use mathlib.Core.Path.{_≡_, refl, sym, ap, _∙_}
 use mathlib.Core.Bool.{Bool}
 use mathlib.Core.List.{List}
-use Prim.Native.Nat.{ℕ, _-_}
-use native.Mathlib.Omega.{arith}
+use Prim.Native.Nat.{ℕ}
 use lib.ListN.{length}
 use Rattle.lists.specs.Zeros.{zeros}
 use Rattle.aes.specs.Expansion.{aes}
@@ -20,12 +19,8 @@ use Rattle.link.specs.Prepared.{cipherOf}
 use Rattle.link.specs.Promises.{sealing, sealRuns, openRuns, SealsBy, Seals, openedAs, OpensBy, Opens, sealingWith, sealRunsWith, openRunsWith, SealsWith, OpensWith}
 use Rattle.link.specs.declared.answer.Answer.{Answer}
 use Rattle.link.specs.declared.prepared.Prepared.{Prepared}
-use Rattle.link.proofs.Verdicts.{Verdict, passes, stops, OpenFits, open-verdict}
+use Rattle.link.proofs.Verdicts.{sure, open-verdict}
 use Rattle.link.proofs.Entries.{aes-cipher, aes-ta}
-
--- a check that passes does not stop
-pub pass-or-stop : (n : ℕ) (x : Answer) → pass n ≡ stop x → ⊥
-pass-or-stop n x e = let z : _≡_ {A = ℕ} 0 1 = cc in omega arith
 
 -- ---- sealing
 by-seal : (c : Check) (k : ℕ) (bytes out : List ℕ) (r r′ : Answer) (a a′ : List ℕ) → SealsBy c k bytes out r a → SealsBy c k bytes out r′ a′ → (r ≡ r′) × (a ≡ a′)
@@ -60,14 +55,9 @@ module _ (E : List ℕ → List ℕ) (e : IsCipher E) (q : List ℕ) (form : ℕ
 
   one : (n : ℕ) → checks ≡ pass n → (o p : Opened) → Allowed (otrFrom E q (formOf form) nonce ad t) s o → Allowed (otrFrom E q (formOf form) nonce ad t) s p → o ≡ p
   unfolding checks
-  one n is = go (open-verdict form known (length nonce) t (length ad) (length s) (length out))
-    where
-      go : Verdict
-          (OpenFits form known (length nonce) t (length ad) (length s) (length out))
-          (length s - t) checks
-          → (o p : Opened) → Allowed (otrFrom E q (formOf form) nonce ad t) s o → Allowed (otrFrom E q (formOf form) nonce ad t) s p → o ≡ p
-      go (passes f w) = otr-one-answer E e q (formOf form) nonce ad t h (f .0 .nonces .1) (f .0 .tags .1) s
-      go (stops x z w) = λ o p q r. absurd (pass-or-stop n x (sym is ∙ w))
+  one n is =
+      let f = sure (open-verdict form known (length nonce) t (length ad) (length s) (length out)) n is in
+      otr-one-answer E e q (formOf form) nonce ad t h (f .0 .nonces .1) (f .0 .tags .1) s
 
   opening-decided : (k : ℕ) (r r′ : Answer) (a a′ : List ℕ)
       → OpensBy (callCheck form known (length nonce) t (length ad) (openNext t (length s) (length out))) k (otrFrom E q (formOf form) nonce ad t) s out r a

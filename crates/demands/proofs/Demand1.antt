@@ -19,9 +19,8 @@ use Rattle.link.specs.declared.answer.Answer.{Answer}
 use Rattle.link.specs.declared.answer.Answer.the-variants.{Key, Nonce, Tag, Data, Length, Room, Form}
 use Rattle.link.specs.declared.prepared.Prepared.{Prepared}
 use Rattle.link.proofs.Answers.{Answered, done, forged, refusal, answered}
-use Rattle.link.proofs.Verdicts.{Verdict, passes, stops, OpenFits, open-verdict}
+use Rattle.link.proofs.Verdicts.{Verdict, passes, stops, pass-or-stop, OpenFits, open-verdict}
 use Rattle.demands.specs.Calls.{firstFailing, keyKnown, roundsKnown, sealChecks, openChecks}
-use Rattle.demands.proofs.Decided.{pass-or-stop}
 
 -- the checks as a list and as an answer agree in the number
 number-of : (a b c d e f g : Bool) (n : ℕ)

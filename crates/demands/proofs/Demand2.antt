@@ -1,7 +1,7 @@
 -- Demand 2: everything within the stated limits is sealed, given room, and the bytes are exactly AES-OTR v3.1 in the form named, over
 -- the AES of FIPS 197; opening what was sealed gives the message back. Under a record the bytes are AES-OTR v3.1 over its own cipher,
 -- with its own first mask. Assumes nothing.
-use mathlib.Core.Path.{_≡_, refl, sym, ap, subst, _∙_}
+use mathlib.Core.Path.{_≡_, refl, ap, subst, _∙_}
 use mathlib.Core.Bool.{Bool, true}
 use mathlib.Core.List.{List}
 use Prim.Native.Nat.{ℕ, _+_, _-_, _≤_}
@@ -44,8 +44,8 @@ module _ (E : List ℕ → List ℕ) (e : IsCipher E) (q : List ℕ) (form : ℕ
   sealing-is : length m + t ≤ length out → SealsBy (callCheck form key (length nonce) t (length ad) (sealNext t (length m) (length out))) k (seal m) out r after
       → (r ≡ Done (length m + t) k) × (after ≡ lay 0 (seal m) out)
   sealing-is room =
-      subst (λ (c : Check). SealsBy c k (seal m) out r after → (r ≡ Done (length m + t) k) × (after ≡ lay 0 (seal m) out))
-      (sym (seal-passes form key (length nonce) t (length ad) is limits (length m) (length out) short room)) (λ p. p)
+      subst (λ (c : Check). SealsBy c k (seal m) out r after)
+      (seal-passes form key (length nonce) t (length ad) is limits (length m) (length out) short room)
 
   sealed-long : length (seal m) ≡ length m + t
   unfolding seal

@@ -27,10 +27,10 @@ use Rattle.link.specs.declared.answer.Answer.{Answer}
 use Rattle.link.specs.declared.answer.Answer.the-variants.{Done, Key, Forged}
 use Rattle.link.specs.declared.prepared.Prepared.{Prepared}
 use Rattle.link.proofs.Answers.{Answered, done, forged, refusal, answered, stands-for, parts, no-runs}
-use Rattle.link.proofs.Verdicts.{Verdict, passes, stops, SealFits, OpenFits, seal-verdict, open-verdict}
-use Rattle.link.proofs.Entries.{rounds-known, cipher-is}
+use Rattle.link.proofs.Verdicts.{Verdict, sure, SealFits, OpenFits, seal-verdict, open-verdict}
+use Rattle.link.proofs.Entries.{rounds-known, under-record}
 use Rattle.demands.specs.Calls.{keyKnown, OneOf}
-use Rattle.demands.proofs.Decided.{pass-or-stop, seals-decided, opens-decided}
+use Rattle.demands.proofs.Decided.{seals-decided, opens-decided}
 use Rattle.demands.proofs.Demand1.{stop-is, seal-not-7, open-not-7}
 use Rattle.demands.proofs.Limits.{known}
 
@@ -65,9 +65,7 @@ module _ (key : List ℕ) where
   module _ (h : knownKey (length key) ≡ true) where
     under-key : {A : Type 0} (f : (List ℕ → List ℕ) → List ℕ → A) → f (cipherOf prepared) (prepared .zero) ≡ f (aes key) (aes key (zeros 16))
     unfolding preparation
-    under-key f =
-        ap (λ (b : Bool). f (cipherOf (preparedIf b key .key)) (preparedIf b key .key .zero)) h
-        ∙ ap (λ (E : List ℕ → List ℕ). f E (aes key (zeros 16))) (cipher-is key h)
+    under-key f = under-record key h f prepared (aes key (zeros 16)) (ap (λ (b : Bool). preparedIf b key .key) h)
 
 -- ---- an answer with z runs more
 module _ (z : ℕ) where
@@ -114,17 +112,9 @@ module _ (z : ℕ) where
       (o, subst (λ (f : List ℕ → List ℕ). Allowed f s o) (same .1) a, ap more is ∙ opened-more n k k′ o (same .0), b)
   more-opens (stop x) k k′ seal seal′ s out r after at-stop at-pass p = (ap more (p .0) ∙ at-stop x refl, p .1)
 
--- what checks stop with ran no cipher; and where they pass, what they make sure of is known
-module _ {P : Type 0} {n : ℕ} (c : Check) (v : Verdict P n c) where
-  stopped : (z : ℕ) → (numberOf (asAnswer c) ≡ 7 → ⊥) → (x : Answer) → c ≡ stop x → more z x ≡ x
-  stopped z not7 x e = stays z x (stop-is P n c v x e) (λ h. not7 (ap (λ (d : Check). numberOf (asAnswer d)) e ∙ h))
-
-  passed : (i : ℕ) → c ≡ pass i → P
-  passed i e = go v
-    where
-      go : Verdict P n c → P
-      go (passes q w) = q
-      go (stops x z w) = absurd (pass-or-stop i x (sym e ∙ w))
+-- what checks stop with ran no cipher
+stopped : {P : Type 0} {n : ℕ} (c : Check) → Verdict P n c → (z : ℕ) → (numberOf (asAnswer c) ≡ 7 → ⊥) → (x : Answer) → c ≡ stop x → more z x ≡ x
+stopped {P} {n} c v z not7 x e = stays z x (stop-is P n c v x e) (λ h. not7 (ap (λ (d : Check). numberOf (asAnswer d)) e ∙ h))
 
 -- the zero block's run, which a raw key's call has where there is data; and with it the runs that it has with its first mask at hand
 abbrev pub zeroRun : List ℕ → ℕ
@@ -140,7 +130,7 @@ module _ (form : ℕ) (key nonce ad : List ℕ) (t : ℕ) (out : List ℕ) where
   seals-as-key m r after h =
       more-seals (zeroRun ad) c (sealRunsWith form (prepared key) nonce ad t m) (sealRuns form key nonce ad t m) (sealingWith form (prepared key) nonce ad t m) (sealing form key nonce ad t m) out r after
       (stopped c verdict (zeroRun ad) (seal-not-7 form (knownKey (length key)) nonce ad m t out))
-      (λ n e. let is = passed c verdict n e .0 .known in (
+      (λ n e. let is = sure verdict n e .0 .known in (
         and-zero ad _ (fromInputs (aes key) (aes key (zeros 16)) (formOf form) nonce ad t m) (under-key key is (λ E q. length (fromInputs E q (formOf form) nonce ad t m))),
         under-key key is (λ E q. otrFrom E q (formOf form) nonce ad t m),
       ))
@@ -158,7 +148,7 @@ module _ (form : ℕ) (key nonce ad : List ℕ) (t : ℕ) (out : List ℕ) where
   opens-as-key s r after h =
       more-opens (zeroRun ad) c (openRunsWith form (prepared key) nonce ad t s) (openRuns form key nonce ad t s) (sealingWith form (prepared key) nonce ad t) (sealing form key nonce ad t) s out r after
       (stopped c verdict (zeroRun ad) (open-not-7 form (knownKey (length key)) nonce ad s t out))
-      (λ n e. let is = passed c verdict n e .0 .known in (
+      (λ n e. let is = sure verdict n e .0 .known in (
         and-zero ad _ (foundFromInputs (aes key) (aes key (zeros 16)) (formOf form) nonce ad t s) (under-key key is (λ E q. length (foundFromInputs E q (formOf form) nonce ad t s))),
         under-key key is (λ E q. otrFrom E q (formOf form) nonce ad t),
       ))

@@ -25,11 +25,12 @@ use Rattle.passes.specs.Shown.{flag}
 use Rattle.pairs.proofs.Cipher.{is-cipher, length-ta}
 use Rattle.link.specs.Answers.{numberOf}
 use Rattle.link.specs.Checks.{Check, pass, stop, knownKey, knownRounds, callCheck, asAnswer}
-use Rattle.link.specs.Prepared.{cipherOf, ownOf}
+use Rattle.link.specs.Prepared.{cipherOf, recordOf, ownOf}
 use Rattle.link.specs.Promises.{sealing, sealRuns, openRuns, SealsBy, openedAs, OpensBy, sealingWith, sealRunsWith, openRunsWith}
 use Rattle.link.specs.declared.answer.Answer.{Answer}
 use Rattle.link.specs.declared.answer.Answer.the-variants.{Done, Forged}
 use Rattle.link.specs.declared.prepared.Own.{Own}
+use Rattle.link.specs.declared.prepared.Prepared.{Prepared}
 use Rattle.link.proofs.Known.{size-known, known-rounds}
 use Rattle.link.proofs.Verdicts.{Verdict, passes, stops}
 
@@ -112,12 +113,15 @@ module _ (key : List ℕ) (known : knownKey (length key) ≡ true) where
   pub cipher-is : cipher (expanded key .rounds) (expanded key .words) ≡ aes key
   cipher-is = fun-ext (keyed .ciphers)
 
+  -- what f gives of a record of this key, its cipher and its first mask
+  pub under-record : {A : Type 0} (f : (List ℕ → List ℕ) → List ℕ → A) (p : Prepared) (q : List ℕ) → p ≡ recordOf key q → f (cipherOf p) (p .zero) ≡ f (aes key) q
+  under-record f p q is = ap (λ (x : Prepared). f (cipherOf x) (x .zero)) is ∙ ap (λ (E : List ℕ → List ℕ). f E q) cipher-is
+
   -- under the record of its own a call with a raw key seals and opens as under the key, and its runs and those for the record are the
   -- key's. c is what the checks came to, i bytes
   module _ (form : ℕ) (nonce ad : List ℕ) (t : ℕ) (o : Own) (is : o ≡ ownOf key (withData ad)) where
-    -- what f gives of the record's cipher and its first mask
     under-key : {A : Type 0} (f : (List ℕ → List ℕ) → List ℕ → A) → f (cipherOf (o .key)) (o .key .zero) ≡ f (aes key) (firstQ (aes key) (withData ad))
-    under-key f = ap (λ (x : Own). f (cipherOf (x .key)) (x .key .zero)) is ∙ ap (λ (E : List ℕ → List ℕ). f E (firstQ (aes key) (withData ad))) cipher-is
+    under-key f = under-record f (o .key) (firstQ (aes key) (withData ad)) (ap (λ (x : Own). x .key) is)
 
     sealing-is : sealingWith form (o .key) nonce ad t ≡ sealing form key nonce ad t
     sealing-is = under-key (λ E q. otrFrom E q (formOf form) nonce ad t) ∙ own-otr (aes key) (formOf form) nonce t ad

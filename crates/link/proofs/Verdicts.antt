@@ -16,6 +16,14 @@ pub data Verdict (P : Type 0) (n : ℕ) (c : Check) : Type 0 where
   passes : P → c ≡ pass n → Verdict P n c
   stops : (r : Answer) → (numberOf r ≡ 0 → ⊥) → c ≡ stop r → Verdict P n c
 
+-- a check that passes does not stop; and where the checks pass, what they make sure of is known
+pub pass-or-stop : (n : ℕ) (x : Answer) → pass n ≡ stop x → ⊥
+pass-or-stop n x e = let z : _≡_ {A = ℕ} 0 1 = cc in omega arith
+
+pub sure : {P : Type 0} {n : ℕ} {c : Check} → Verdict P n c → (i : ℕ) → c ≡ pass i → P
+sure (passes p e) i h = p
+sure (stops x z e) i h = absurd (pass-or-stop i x (sym h ∙ e))
+
 -- one check more in front
 checked : {P : Type 0} {n : ℕ} {c : Check} (b : Bool) (r : Answer) → (numberOf r ≡ 0 → ⊥) → (b ≡ true → Verdict P n c) → Verdict P n (unless b r c)
 checked true r z f = f refl

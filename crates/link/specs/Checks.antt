@@ -1,7 +1,7 @@
 -- Document 01, 'Numbers a call may carry' and 'What comes back', with the form (document 02, wish 1), nonces of 1 to 15 bytes (wish 5)
--- and prepared keys (wish 9): check 8, and then 1 to 6 in the order of their numbers. They go by the form's number, by lengths, of the
--- key, the nonce, the tag, the associated data, the message or the sealed bytes, and the output, and by a prepared key's round count
--- alone.
+-- and prepared keys (wish 9): check 8, and then 1 to 6 in the order of their numbers. They go by the form's number, by lengths alone (of
+-- the key, the nonce, the tag, the associated data, the message or the sealed bytes, and the output), and of a prepared key by its round
+-- count.
 use mathlib.Core.Bool.{Bool, true, false, _&&_, _||_}
 use Prim.Native.Nat.{ℕ, _+_, _-_}
 use lib.Dec.{eqb, leb}
