@@ -39,7 +39,7 @@ fn record_of(tables: &[u32; 1024], key: &[u8], needed: bool) -> Own
     let keys = aes::expand(&table, key);
     let nr = keys.rounds;
     let w = keys.words;
-    let first = passes::first_q(tables, &w, nr, needed);
+    let first = associated::first_q(tables, &w, nr, needed);
     let q = first.block;
     let made = Prepared {
         rounds: nr,

@@ -1,4 +1,2 @@
-pub mod Formatted
 pub mod Messages
-pub mod Rest
 pub mod Sealed

@@ -1,7 +1,7 @@
 -- The message pass as the code puts it together, with the number of pairs n and the masks L and R that it has computed. Assumes
 -- nothing.
 use mathlib.Core.Path.{_≡_, refl, sym, ap, ap₂, subst, _∙_}
-use mathlib.Core.Bool.{Bool, true, false}
+use mathlib.Core.Bool.{Bool}
 use mathlib.Core.List.{List, _++_}
 use Prim.Native.Nat.{ℕ, _+_, _-_, _*_, _/_, _≤_}
 use native.Mathlib.Omega.{arith}
@@ -19,11 +19,7 @@ use Rattle.mode.proofs.Pairs.{swapped-masks, length-pairs}
 use Rattle.mode.proofs.Ends.{Remains, length-ending, length-unending}
 use Rattle.mode.proofs.Walk.{remains}
 use Rattle.mode.proofs.Parts.{teOf, body-parts, te-parts, unbody-parts, te-undone, sum-front}
-
--- the end rules of v3.1 do not go by U
-pub final-same : (a b : List ℕ) (t : Bool) (x : List ℕ) → final (third a) t x ≡ final (third b) t x
-final-same a b true x = refl
-final-same a b false x = refl
+use Rattle.ends.proofs.Final.{final-same}
 
 -- ---- how often the cipher runs
 module _ (m : List ℕ) (n : ℕ) (hn : n ≡ pairsOf (length m)) where

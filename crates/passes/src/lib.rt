@@ -1,7 +1,8 @@
 // The passes of AES-OTR v3.1 under a prepared key: nr is its round count, w the flat array of its round keys, and q its first mask, the
-// first Q of the data pass (document 02, wish 9); table are the four joined tables, which every function is lent. In the contracts the
-// cipher E is `cipher nr (now w)`. What runs the cipher says how many times it did (wish 6): each of its calls is counted where it
-// stands, and the sum is formed where passes meet.
+// first Q of the data pass (document 02, wish 9); table are the four joined tables, which are lent to what runs the cipher. In the
+// contracts the cipher E is `cipher nr (now w)`. What comes before the message pass is `associated`, its pairs are `pairs`, its last
+// blocks and TE `ends`. What runs the cipher says how many times it did (wish 6): each of its calls is counted where it stands, and the
+// sum is formed here, where passes meet.
 ghost use mathlib.Core.Path.{_≡_};
 ghost use Prim.Native.Nat.{_+_, _-_, _≤_};
 ghost use lib.ListN.{length};
@@ -9,83 +10,17 @@ ghost use Rattle.lists.specs.Lay.{lay};
 ghost use Rattle.tables.specs.Joined.{joined};
 ghost use Rattle.aes.specs.Cipher.{cipher};
 ghost use Rattle.mode.specs.Form.{formOf};
-ghost use Rattle.mode.specs.Data.{dataPass, taInputs};
-ghost use Rattle.mode.specs.Sealing.{dataTag, u as uOf, added as addedOf, otrFrom, callInputs, fromInputs};
+ghost use Rattle.mode.specs.Sealing.{otrFrom, fromInputs};
 ghost use Rattle.mode.specs.Undoing.{foundFrom, foundFromInputs};
 ghost use Rattle.passes.specs.Shown.{shown, flag};
-use pairs::Ran;
 
-mod data;
-mod ends;
 mod message;
-mod nonce;
-mod parallel;
-mod serial;
 mod tag;
-
-pub use data::first_q;
-
-// The first mask U, what is XORed into the tag, and how many times the cipher ran for them.
-struct SealsWith {
-    u: [u8; 16],
-    added: [u8; 16],
-    runs: usize,
-}
 
 // Whether the tag matches, and how many times the cipher ran.
 pub struct Opening {
     pub matches: bool,
     pub runs: usize,
-}
-
-// TA of the associated data a from the first Q, in the form with this number.
-fn ta(form: usize, table: &[u32; 1024], w: &[u8; 240], nr: usize, q: [u8; 16], a: &[u8]) -> Ran
-    requires { ⌜ now table ≡ joined ⌝ }
-    requires { ⌜ (10 ≤ nr) × (nr ≤ 14) ⌝ }
-    ensures { λ r. ⌜ r .block ≡ dataTag (cipher nr (now (w .entry))) q (formOf form) (now (a .entry)) ⌝ }
-    ensures { λ r. ⌜ r .runs ≡ length (taInputs (cipher nr (now (w .entry))) (dataPass (cipher nr (now (w .entry))) q (formOf form)) (now (a .entry))) ⌝ }
-{
-    if form == 0 {
-        return parallel::ta(table, w, nr, q, a);
-    }
-    serial::ta(table, w, nr, q, a)
-}
-
-// What the form with this number seals with, for the nonce n and the associated data a.
-fn seals_with(
-    form: usize,
-    table: &[u32; 1024],
-    w: &[u8; 240],
-    nr: usize,
-    q: [u8; 16],
-    n: &[u8],
-    a: &[u8],
-    t: usize,
-) -> SealsWith
-    requires { ⌜ now table ≡ joined ⌝ }
-    requires { ⌜ (10 ≤ nr) × (nr ≤ 14) ⌝ }
-    requires { ⌜ (1 ≤ length (now n)) × ((length (now n) ≤ 15) × (t ≤ 16)) ⌝ }
-    ensures { λ r. ⌜ r .u ≡ uOf (cipher nr (now (w .entry))) q (formOf form) (now (n .entry)) (now (a .entry)) t ⌝ }
-    ensures { λ r. ⌜ r .added ≡ addedOf (cipher nr (now (w .entry))) q (formOf form) (now (n .entry)) (now (a .entry)) t ⌝ }
-    ensures { λ r. ⌜ r .runs ≡ length (callInputs (cipher nr (now (w .entry))) q (formOf form) (now (n .entry)) (now (a .entry)) t) ⌝ }
-{
-    let v = joined::encrypt(table, w, nr, nonce::format(t, n));
-    let data = ta(form, table, w, nr, q, a);
-    let ta = data.block;
-    // one for the nonce block
-    let runs = 1 + data.runs;
-    if form == 0 {
-        return SealsWith {
-            u: v,
-            added: ta,
-            runs: runs,
-        };
-    }
-    SealsWith {
-        u: block::double(block::xor(v, ta)),
-        added: block::zeros(),
-        runs: runs,
-    }
 }
 
 // Seals the message m with nonce n and associated data a into out: the ciphertext, and t bytes of tag behind it. Says how many times
@@ -109,7 +44,7 @@ pub fn seal(
     ensures { λ _. ⌜ now (out .exit) ≡ lay 0 (otrFrom (cipher nr (now (w .entry))) q (formOf form) (now (n .entry)) (now (a .entry)) t (now (m .entry))) (now (out .entry)) ⌝ }
     ensures { λ r. ⌜ r ≡ length (fromInputs (cipher nr (now (w .entry))) q (formOf form) (now (n .entry)) (now (a .entry)) t (now (m .entry))) ⌝ }
 {
-    let with = seals_with(form, table, w, nr, q, n, a, t);
+    let with = associated::seals_with(form, table, w, nr, q, n, a, t);
     let u = with.u;
     let added = with.added;
     let pass = message::seal(table, w, nr, u, m, out);
@@ -141,7 +76,7 @@ pub fn open(
     ensures { λ r. ⌜ r .runs ≡ length (foundFromInputs (cipher nr (now (w .entry))) q (formOf form) (now (n .entry)) (now (a .entry)) t (now (s .entry))) ⌝ }
 {
     let b = s.len() - t;
-    let with = seals_with(form, table, w, nr, q, n, a, t);
+    let with = associated::seals_with(form, table, w, nr, q, n, a, t);
     let u = with.u;
     let added = with.added;
     let pass = message::open(table, w, nr, u, &s[..b], out);

@@ -9,7 +9,6 @@ ghost use Rattle.mode.specs.Masks.{third};
 ghost use Rattle.mode.specs.Message.{pairsOf, body, te as teOf};
 ghost use Rattle.mode.specs.Sealing.{sealedInputs};
 ghost use Rattle.mode.specs.Undoing.{unbody, undoneInputs};
-use crate::ends;
 use pairs::Ran;
 
 // The number of pairs before the last one or two blocks of b bytes.
