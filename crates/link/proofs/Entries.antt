@@ -32,7 +32,7 @@ use Rattle.link.specs.declared.answer.Answer.the-variants.{Done, Forged}
 use Rattle.link.specs.declared.prepared.Own.{Own}
 use Rattle.link.specs.declared.prepared.Prepared.{Prepared}
 use Rattle.link.proofs.Known.{size-known, known-rounds}
-use Rattle.link.proofs.Verdicts.{Verdict, passes, stops}
+use Rattle.link.proofs.Verdicts.{Verdict, went-on}
 
 -- ---- the checks, as an entry point goes by them: whether the key is known was looked at before, and k is what that gave
 seal-stopped : (c : Check) (j : ℕ) (bytes out : List ℕ) (r : Answer) → r ≡ asAnswer c → (numberOf r ≡ 0 → ⊥) → SealsBy c j bytes out r out
@@ -42,10 +42,6 @@ seal-stopped (stop x) j bytes out r e z = (e, refl)
 open-stopped : (c : Check) (j : ℕ) (seal : List ℕ → List ℕ) (s out : List ℕ) (r : Answer) → r ≡ asAnswer c → (numberOf r ≡ 0 → ⊥) → OpensBy c j seal s out r out
 open-stopped (pass i) j seal s out r e z = absurd (z (ap numberOf e))
 open-stopped (stop x) j seal s out r e z = (e, refl)
-
-went-on : {P : Type 0} {i : ℕ} {c : Check} → Verdict P i c → (r : Answer) → r ≡ asAnswer c → numberOf r ≡ 0 → P × (c ≡ pass i)
-went-on (passes p e) r q z = (p, e)
-went-on (stops x y e) r q z = absurd (y (sym (ap (λ (c : Check). numberOf (asAnswer c)) e) ∙ sym (ap numberOf q) ∙ z))
 
 module _ (form : ℕ) (k known : Bool) (same : k ≡ known) (nonce t ad : ℕ) (next : Check) (r : Answer) (is : r ≡ asAnswer (callCheck form k nonce t ad next))
     (n : ℕ) (number : n ≡ numberOf r) where

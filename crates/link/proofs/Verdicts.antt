@@ -24,8 +24,13 @@ pub sure : {P : Type 0} {n : ℕ} {c : Check} → Verdict P n c → (i : ℕ) �
 sure (passes p e) i h = p
 sure (stops x z e) i h = absurd (pass-or-stop i x (sym h ∙ e))
 
+-- an answer of the checks that is done: they have passed
+pub went-on : {P : Type 0} {i : ℕ} {c : Check} → Verdict P i c → (r : Answer) → r ≡ asAnswer c → numberOf r ≡ 0 → P × (c ≡ pass i)
+went-on (passes p e) r q z = (p, e)
+went-on (stops x y e) r q z = absurd (y (sym (ap (λ (c : Check). numberOf (asAnswer c)) e) ∙ sym (ap numberOf q) ∙ z))
+
 -- one check more in front
-checked : {P : Type 0} {n : ℕ} {c : Check} (b : Bool) (r : Answer) → (numberOf r ≡ 0 → ⊥) → (b ≡ true → Verdict P n c) → Verdict P n (unless b r c)
+pub checked : {P : Type 0} {n : ℕ} {c : Check} (b : Bool) (r : Answer) → (numberOf r ≡ 0 → ⊥) → (b ≡ true → Verdict P n c) → Verdict P n (unless b r c)
 checked true r z f = f refl
 checked false r z f = stops r z refl
 
@@ -39,7 +44,7 @@ guarded true r z g = g
 guarded false r z g = holds r z refl refl
 
 -- both halves of a range test
-and-true : (a b : Bool) → (a && b) ≡ true → (a ≡ true) × (b ≡ true)
+pub and-true : (a b : Bool) → (a && b) ≡ true → (a ≡ true) × (b ≡ true)
 and-true true b h = (refl, h)
 and-true false b h = absurd (let z : _≡_ {A = ℕ} 0 1 = cc in omega arith)
 
@@ -75,15 +80,11 @@ module _ (form : ℕ) (k : Bool) (nonce t ad : ℕ) where
       checked (leb ad 4096) Data (λ z. omega arith) λ a.
       f (record { forms = leb-true form 1 p; known = known; nonces = within 1 15 nonce s; tags = within 4 16 t g; data-most = leb-true ad 4096 a })
 
-  call-verdict : Verdict (Called form k nonce t ad) 0 (callCheck form k nonce t ad (pass 0))
+  pub call-verdict : Verdict (Called form k nonce t ad) 0 (callCheck form k nonce t ad (pass 0))
   call-verdict = after (Called form k nonce t ad) 0 (pass 0) (λ h. passes h refl)
 
   call-passed : numberOf (asAnswer (callCheck form k nonce t ad (pass 0))) ≡ 0 → Called form k nonce t ad
-  call-passed h = go call-verdict
-    where
-      go : Verdict (Called form k nonce t ad) 0 (callCheck form k nonce t ad (pass 0)) → Called form k nonce t ad
-      go (passes p e) = p
-      go (stops r z e) = absurd (z (sym (ap (λ (c : Check). numberOf (asAnswer c)) e) ∙ h))
+  call-passed h = went-on call-verdict (asAnswer (callCheck form k nonce t ad (pass 0))) refl h .0
 
   pub seal-verdict : (m o : ℕ) → Verdict (SealFits form k nonce t ad m o) (m + t) (callCheck form k nonce t ad (sealNext t m o))
   seal-verdict m o =

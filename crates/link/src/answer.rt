@@ -5,7 +5,7 @@ ghost use Rattle.link.specs.Answers.{numberOf, lengthOf, runsOf};
 pub enum Answer {
     // Done, with the number of bytes written, and how many times the cipher ran.
     Done { length: usize, runs: usize },
-    // The refusals 1 to 8, in the order of their numbers. Of these the cipher has run for 7 alone.
+    // The refusals 1 to 9, in the order of their numbers. Of these the cipher has run for 7 alone, and 9 is a sealer's alone.
     Key,
     Nonce,
     Tag,
@@ -14,6 +14,7 @@ pub enum Answer {
     Room,
     Forged { runs: usize },
     Form,
+    Ended,
 }
 
 pub fn number(a: Answer) -> usize
@@ -29,6 +30,7 @@ pub fn number(a: Answer) -> usize
         Answer::Room => 6,
         Answer::Forged { runs: _ } => 7,
         Answer::Form => 8,
+        Answer::Ended => 9,
     }
 }
 
@@ -45,6 +47,7 @@ pub fn length(a: Answer) -> usize
         Answer::Room => 0,
         Answer::Forged { runs: _ } => 0,
         Answer::Form => 0,
+        Answer::Ended => 0,
     }
 }
 
@@ -61,5 +64,6 @@ pub fn runs(a: Answer) -> usize
         Answer::Room => 0,
         Answer::Forged { runs } => runs,
         Answer::Form => 0,
+        Answer::Ended => 0,
     }
 }

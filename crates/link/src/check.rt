@@ -6,7 +6,7 @@ use crate::answer::number;
 use aes::KeySize;
 
 // Whether a is from l to h.
-fn from_to(l: usize, h: usize, a: usize) -> bool
+pub fn from_to(l: usize, h: usize, a: usize) -> bool
     ensures { λ r. ⌜ r ≡ between l h a ⌝ }
 {
     if a < l {
@@ -43,7 +43,7 @@ pub fn known_rounds(rounds: usize) -> bool
 }
 
 // The checks that all calls share. Check 1 has been looked at: the key is known, or it is not.
-fn call_check(form: usize, known: bool, nonce: usize, tag: usize, ad: usize) -> Answer
+pub fn call_check(form: usize, known: bool, nonce: usize, tag: usize, ad: usize) -> Answer
     ensures { λ r. ⌜ r ≡ asAnswer (callCheck form known nonce tag ad (pass 0)) ⌝ }
 {
     if 1 < form {

@@ -13,9 +13,15 @@ pub use answer::Answer;
 pub use answer::length;
 pub use answer::number;
 pub use answer::runs;
+pub use check::call_check;
+pub use check::from_to;
+pub use check::known_key;
+pub use check::known_rounds;
 pub use parameters::Parameters;
+pub use prepared::Own;
 pub use prepared::Preparation;
 pub use prepared::Prepared;
+pub use prepared::own_record;
 pub use prepared::prepare;
 
 pub fn seal(

@@ -109,3 +109,15 @@ lay-end p z new i h e =
     ap₂ (λ (a b : List ℕ). a ++ (new ++ b)) (take-at p z i h)
     (ap (λ (k : ℕ). drop (k + length new) (p ++ z)) (sym h) ∙ drop-append-add p z (length new) ∙ none)
     ∙ ap (λ (l : List ℕ). p ++ l) (append-nil new)
+
+-- laid into the part from place i to the end, and so into the whole
+pub lay-part : (i : ℕ) (new out : List ℕ) → i ≤ length out
+    → take i out ++ (lay 0 new (take (length out - i) (drop i out)) ++ drop (length out - i) (drop i out)) ≡ lay i new out
+lay-part i new out h =
+    let long : length (drop i out) ≡ length out - i = length-drop i out in
+    let none : drop (length out - i) (drop i out) ≡ [] = drop-of-length-le (drop i out) {i = length out - i} (omega arith) in
+    ap (λ (l : List ℕ). take i out ++ l)
+    (ap₂ (λ (a b : List ℕ). lay 0 new a ++ b) (take-all (length out - i) (drop i out) (omega arith)) none
+    ∙ append-nil (lay 0 new (drop i out))
+    ∙ ap (λ (n : ℕ). new ++ drop n (drop i out)) (zero-add (length new))
+    ∙ ap (λ (l : List ℕ). new ++ l) (drop-drop (length new) i out))

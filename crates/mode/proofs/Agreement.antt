@@ -37,7 +37,7 @@ unfolding zeros zipWith format
 nonces-of-15 = refl
 
 -- byte i is 5 times byte i, 3 times the next, and 7i + 11
-pub standIn : List ℕ → List ℕ
+unfoldable pub standIn : List ℕ → List ℕ
 standIn b = table (λ i. (5 * getD b i 0 + 3 * getD b ((i + 1) % 16) 0 + 7 * i + 11) % 256) 16
 
 -- a row's strings: byte i of the message is 7i + 3, of the data 11i + 5, of the nonce 13i + 1

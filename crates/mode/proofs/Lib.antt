@@ -1,6 +1,8 @@
 pub mod Expected
 pub mod Lent
 pub mod Agreement
+pub mod Divided
+pub mod Divisions
 pub mod Counts
 pub mod Pairs
 pub mod Ends
@@ -14,4 +16,5 @@ pub mod Data
 pub mod Third
 pub mod Runs
 pub mod Own
+pub mod Feeding
 pub mod Inputs

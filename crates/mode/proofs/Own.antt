@@ -1,7 +1,7 @@
 -- A call whose first Q is its own. Where the data pass needs it, it is E of the zero block, and so the call is AES-OTR v3.1; where it
 -- does not, it does not matter. Assumes nothing.
 use mathlib.Core.Path.{_≡_, refl, sym, ap, _∙_}
-use mathlib.Core.List.{List, [], _∷_}
+use mathlib.Core.List.{List, [], _∷_, _++_}
 use Prim.Native.Nat.{ℕ, _+_}
 use native.Mathlib.Omega.{arith}
 use lib.Dec.{ltb}
@@ -10,7 +10,7 @@ use borrow.Author.Tests.{lt-ltb}
 use Rattle.lists.specs.Zeros.{zeros}
 use Rattle.mode.specs.Form.{Form}
 use Rattle.mode.specs.Data.{ta, taInputs, firstQ, qInputs, withData}
-use Rattle.mode.specs.Sealing.{otrFrom, fromInputs, otr, otrInputs}
+use Rattle.mode.specs.Sealing.{dataTag, otrFrom, callInputs, fromInputs, otr, otrInputs}
 use Rattle.mode.specs.Undoing.{foundFromInputs, foundInputs}
 
 -- there is data where its length is not 0
@@ -23,6 +23,23 @@ module _ (E : List ℕ → List ℕ) (f : Form) (nonce : List ℕ) (t : ℕ) whe
   unfolding ta
   own-otr [] = refl
   own-otr (b ∷ bs) = refl
+
+  -- TA, and the blocks before the message pass
+  pub own-tag : (ad : List ℕ) → dataTag E (firstQ E (withData ad)) f ad ≡ dataTag E (E (zeros 16)) f ad
+  unfolding ta
+  own-tag [] = refl
+  own-tag (b ∷ bs) = refl
+
+  own-call-inputs : (ad : List ℕ) → callInputs E (firstQ E (withData ad)) f nonce ad t ≡ callInputs E (E (zeros 16)) f nonce ad t
+  unfolding taInputs
+  own-call-inputs [] = refl
+  own-call-inputs (b ∷ bs) = refl
+
+  pub own-call-runs : (ad : List ℕ)
+      → length (qInputs (withData ad)) + length (callInputs E (firstQ E (withData ad)) f nonce ad t) ≡ length (qInputs (withData ad) ++ callInputs E (E (zeros 16)) f nonce ad t)
+  own-call-runs ad =
+      ap (λ (x : List (List ℕ)). length (qInputs (withData ad)) + length x) (own-call-inputs ad)
+      ∙ sym (length-append (qInputs (withData ad)) (callInputs E (E (zeros 16)) f nonce ad t))
 
   -- the runs for the first Q and those with it at hand
   own-inputs : (ad m : List ℕ) → fromInputs E (firstQ E (withData ad)) f nonce ad t m ≡ fromInputs E (E (zeros 16)) f nonce ad t m

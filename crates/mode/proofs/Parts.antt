@@ -18,7 +18,7 @@ use Rattle.mode.proofs.Ends.{Remains, length-unending, undone-sum}
 use Rattle.mode.proofs.Walk.{remains, length-unbody}
 
 -- ---- sums read the front alone
-block-front : (a b : List ℕ) (i : ℕ) → i + 16 ≤ length a → block (a ++ b) i ≡ block a i
+pub block-front : (a b : List ℕ) (i : ℕ) → i + 16 ≤ length a → block (a ++ b) i ≡ block a i
 block-front a b i h =
     ap (take 16) (drop-append-le i a b (omega arith)) ∙ take-append-le 16 (drop i a) b (omega (arith, length-drop i a))
 

@@ -42,7 +42,7 @@ module _ (E : List ℕ → List ℕ) (e : IsCipher E) (k : Masks) (s : AreMasks 
   length-final true b h = s .ifShort b h
   length-final false b h = s .ifFull b h
 
-  length-endSum : (t : Bool) (l x : List ℕ) → length l ≡ 16 → Remains t x → length (endSum E t l x) ≡ 16
+  pub length-endSum : (t : Bool) (l x : List ℕ) → length l ≡ 16 → Remains t x → length (endSum E t l x) ≡ 16
   length-endSum true l x hl h =
       let zs : length (z E l x) ≡ 16 = length-inner E e l (take 16 x) hl (length-take-le 16 x (omega arith)) in
       xor-sixteen (z E l x) (pad (last E l x)) zs (length-pad (last E l x) (omega (arith, length-xor (drop 16 x) (z E l x))))

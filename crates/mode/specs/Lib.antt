@@ -6,3 +6,4 @@ pub mod Nonce
 pub mod Sealing
 pub mod Opening
 pub mod Undoing
+pub mod Feeding

@@ -10,7 +10,7 @@ ghost use Rattle.tables.specs.Joined.{joined};
 ghost use Rattle.aes.specs.Cipher.{cipher};
 ghost use Rattle.block.specs.Wide.{bytesOf};
 ghost use Rattle.mode.specs.Masks.{doubles, doubled};
-ghost use Rattle.mode.specs.Message.{block as blockOf, half as halfOf, halfInputs, pair as pairOf, pairInputs, pairs as pairsOf, pairsInputs, sum as sumOf};
+ghost use Rattle.mode.specs.Message.{pairsOf as countOf, block as blockOf, half as halfOf, halfInputs, pair as pairOf, pairInputs, pairs as pairsOf, pairsInputs, sum as sumOf};
 
 // A block, and how many times the cipher ran for it.
 pub struct Ran {
@@ -161,6 +161,16 @@ fn two_pairs(
     put_pair(out, at, c, d);
     put_pair(out, at + 32, next_c, next_d);
     first.runs + second.runs + (next_first.runs + next_second.runs)
+}
+
+// The number of pairs before the last one or two blocks of b bytes.
+pub fn pairs_of(b: usize) -> usize
+    ensures { λ r. ⌜ r ≡ countOf b ⌝ }
+{
+    if b == 0 {
+        return 0;
+    }
+    (b - 1) / 32
 }
 
 // What stands behind the pairs: the masks, and how many times the cipher ran for them.

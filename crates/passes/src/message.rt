@@ -6,20 +6,10 @@ ghost use Rattle.lists.specs.Lay.{lay};
 ghost use Rattle.tables.specs.Joined.{joined};
 ghost use Rattle.aes.specs.Cipher.{cipher};
 ghost use Rattle.mode.specs.Masks.{third};
-ghost use Rattle.mode.specs.Message.{pairsOf, body, te as teOf};
+ghost use Rattle.mode.specs.Message.{body, te as teOf};
 ghost use Rattle.mode.specs.Sealing.{sealedInputs};
 ghost use Rattle.mode.specs.Undoing.{unbody, undoneInputs};
 use pairs::Ran;
-
-// The number of pairs before the last one or two blocks of b bytes.
-fn pairs_of(b: usize) -> usize
-    ensures { λ r. ⌜ r ≡ pairsOf b ⌝ }
-{
-    if b == 0 {
-        return 0;
-    }
-    (b - 1) / 32
-}
 
 // Seals the message m into out, and gives TE.
 pub fn seal(
@@ -37,7 +27,7 @@ pub fn seal(
     ensures { λ a. ⌜ a .block ≡ teOf (cipher nr (now (w .entry))) (third u) (now (m .entry)) ⌝ }
     ensures { λ a. ⌜ a .runs ≡ length (sealedInputs (cipher nr (now (w .entry))) (third u) (now (m .entry))) ⌝ }
 {
-    let n = pairs_of(m.len());
+    let n = pairs::pairs_of(m.len());
     let at = 32 * n;
     let front = pairs::pairs(table, w, nr, u, block::triple(u), m, n, out);
     let l = front.left;
@@ -69,7 +59,7 @@ pub fn open(
     ensures { λ a. ⌜ a .block ≡ teOf (cipher nr (now (w .entry))) (third u) (unbody (cipher nr (now (w .entry))) (third u) (now (c .entry))) ⌝ }
     ensures { λ a. ⌜ a .runs ≡ length (undoneInputs (cipher nr (now (w .entry))) (third u) (now (c .entry))) ⌝ }
 {
-    let n = pairs_of(c.len());
+    let n = pairs::pairs_of(c.len());
     let at = 32 * n;
     let front = pairs::pairs(table, w, nr, block::triple(u), u, c, n, out);
     let l = front.right;

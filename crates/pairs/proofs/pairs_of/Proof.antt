@@ -1,10 +1,10 @@
--- `passes::message::pairs_of` meets its contract. Assumes nothing.
+-- `pairs::pairs_of` meets its contract. Assumes nothing.
 use mathlib.Core.Path.{sym}
 use native.Mathlib.Omega.{arith}
 use Rattle.mode.proofs.Counts.{pairs-are}
 use borrow.Author.Needs.{needs}
-use Rattle.passes.proofs.message.pairs_of.Statement.{statement}
-use Rattle.passes.proofs.message.pairs_of.Tie as tie
+use Rattle.pairs.proofs.pairs_of.Statement.{statement}
+use Rattle.pairs.proofs.pairs_of.Tie as tie
 
 returns : tie.Need-returns
 returns c = omega (arith, pairs-are (c .before .args .b))

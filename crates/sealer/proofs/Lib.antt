@@ -1,0 +1,3 @@
+pub mod Verdicts
+pub mod Steps
+pub mod Begins

@@ -1,0 +1,2 @@
+pub mod Sealers
+pub mod Promises

@@ -1,0 +1,43 @@
+-- Document 02, wish 3: which sealers go on, what they stand at, and the checks of feeding and ending.
+use mathlib.Core.Bool.{Bool, _&&_}
+use Prim.Native.Nat.{ℕ, _+_, _*_}
+use lib.Dec.{leb}
+use Rattle.lists.specs.Zeros.{zeros}
+use Rattle.mode.specs.Message.{pairsOf}
+use Rattle.mode.specs.Feeding.{Between, keeps}
+use Rattle.link.specs.Checks.{Check, pass, stop, from-to, unless, knownRounds}
+use Rattle.link.specs.declared.answer.Answer.the-variants.{Length, Room, Ended}
+use Rattle.parts.specs.State.{between}
+use Rattle.sealer.specs.declared.Sealer.{Sealer}
+
+-- A sealer goes on where its round count, its tag length and the number of bytes fed are ones that a call can have left. Any other value,
+-- whoever made it, counts as ended. None keeps more than 32 bytes, as their number follows from the number fed (`keeps`).
+abbrev pub goesOn : ℕ → ℕ → ℕ → Bool
+goesOn rounds t fed = knownRounds rounds && (from-to 4 16 t && leb fed 16384)
+
+-- what stands between two calls, in the mode's words
+abbrev pub standing : Sealer → Between
+standing s = between (s .state) (keeps (s .fed))
+
+-- a sealer after its end, and after a beginning that was refused: zeros all over
+abbrev pub ended : Sealer
+ended =
+    record {
+      rounds = 0;
+      words = zeros 240;
+      state = record { left = zeros 16; right = zeros 16; sum = zeros 16; kept = zeros 32 };
+      added = zeros 16;
+      tag = 0;
+      fed = 0;
+    }
+
+-- feeding x bytes into o: 9, 5, and 6 where what is due has no room
+unfoldable pub feedCheck : ℕ → ℕ → ℕ → ℕ → ℕ → Check
+feedCheck rounds t fed x o =
+    unless (goesOn rounds t fed) Ended
+    (unless (leb (fed + x) 16384) Length
+    (unless (leb (32 * pairsOf (keeps fed + x)) o) Room (pass (32 * pairsOf (keeps fed + x)))))
+
+-- ending into o: 9, and 6 where the rest and the tag have no room
+unfoldable pub endCheck : ℕ → ℕ → ℕ → ℕ → Check
+endCheck rounds t fed o = unless (goesOn rounds t fed) Ended (unless (leb (keeps fed + t) o) Room (pass (keeps fed + t)))
