@@ -212,6 +212,10 @@ module _ (k : Masks) (m x : List ℕ) where
   unfolding n D
   kept-is = sym (drop-append-le (32 * n) m x out-within)
 
+  pub count-fed : pairsOf (length (m ++ x)) ≡ pairsOf (length m) + due (reached k m) x
+  unfolding n D p
+  count-fed = count-is (m ++ x) n more-out ∙ ap (λ (y : List ℕ). n + pairsOf (length y)) (sym kept-is)
+
   -- feeding goes on from what was reached
   pub reached-fed : fed (reached k m) x ≡ reached k (m ++ x)
   unfolding n D p
