@@ -9,7 +9,7 @@ use Rattle.lists.specs.Table.{table, tableFrom}
 use Rattle.lists.specs.Xor.{xor}
 use Rattle.lists.specs.Zeros.{zeros}
 use Rattle.block.specs.Block.{pad, shift, double}
-use Rattle.mode.specs.Form.{Form, formOf}
+use Rattle.mode.specs.Form.{formOf}
 use Rattle.mode.specs.Masks.{doubles}
 use Rattle.mode.specs.Message.{blocks, pairsOf, even, short, sum, pairs, pairsInputs, body, bodyInputs, checksum}
 use Rattle.mode.specs.Data.{dataSum, sumInputs, chain, chainInputs, ta, taInputs, qInputs, withData}

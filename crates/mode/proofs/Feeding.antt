@@ -12,7 +12,7 @@ use lib.ListN.{length, take, drop, length-append, length-drop}
 use lib.Seq.{drop-append-le, drop-drop}
 use Rattle.lists.specs.Xor.{xor}
 use Rattle.lists.specs.Zeros.{zeros}
-use Rattle.lists.proofs.Xor.{xor-comm, xor-assoc, length-xor}
+use Rattle.lists.proofs.Xor.{xor-assoc, length-xor}
 use Rattle.lists.proofs.Zeros.{length-zeros, xor-zeros}
 use Rattle.block.specs.Block.{double, tripleTwice, seven}
 use Rattle.mode.specs.Masks.{Masks, doubles, doubled}

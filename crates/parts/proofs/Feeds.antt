@@ -1,5 +1,5 @@
 -- A part fed, as the code puts it together. Assumes nothing.
-use mathlib.Core.Path.{_≡_, refl, sym, ap, ap₂, _∙_}
+use mathlib.Core.Path.{_≡_, sym, ap, ap₂, _∙_}
 use mathlib.Core.List.{List, _++_, append-assoc}
 use Prim.Native.Nat.{ℕ, _+_, _-_, _*_, _≤_}
 use native.Mathlib.Omega.{arith}
@@ -12,7 +12,7 @@ use Rattle.lists.proofs.Laid.{lay-lay, lay-whole}
 use Rattle.lists.proofs.Xor.{xor-assoc}
 use Rattle.lists.proofs.Zeros.{length-zeros, xor-zeros}
 use Rattle.mode.specs.Masks.{Masks, IsCipher, doubles, doubled}
-use Rattle.mode.specs.Message.{blocks, pairsOf, sum, pairs, pairsInputs}
+use Rattle.mode.specs.Message.{pairsOf, sum, pairs}
 use Rattle.mode.specs.Feeding.{fedBytes, fedInputs}
 use Rattle.mode.proofs.Counts.{pairs-are}
 use Rattle.mode.proofs.Pairs.{length-pairs}

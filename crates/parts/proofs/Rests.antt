@@ -2,7 +2,7 @@
 use mathlib.Core.Path.{_≡_, refl, sym, ap, ap₂, subst, _∙_}
 use mathlib.Core.Bool.{Bool, true, false}
 use mathlib.Core.List.{List, [], _∷_, _++_}
-use Prim.Native.Nat.{ℕ, _+_, _-_, _*_, _/_, _≤_}
+use Prim.Native.Nat.{ℕ, _+_, _-_, _*_, _≤_}
 use native.Mathlib.Omega.{arith}
 use lib.Dec.{ltb}
 use lib.ListN.{length, drop, length-append}
@@ -13,8 +13,8 @@ use Rattle.lists.proofs.Laid.{lay-lay}
 use Rattle.lists.proofs.Xor.{xor-comm}
 use Rattle.lists.proofs.Zeros.{xor-zeros}
 use Rattle.mode.specs.Masks.{Masks, IsCipher, AreMasks, doubled, third}
-use Rattle.mode.specs.Message.{pairsOf, even, rest, lastLength, short, sum, base, final, pairs, pairsInputs, ending, endingInputs, endSum, body, bodyInputs, checksum}
-use Rattle.mode.specs.Feeding.{Between, endInput, endInputs}
+use Rattle.mode.specs.Message.{pairsOf, even, lastLength, short, sum, base, final, pairs, pairsInputs, ending, endingInputs, endSum, body, bodyInputs, checksum}
+use Rattle.mode.specs.Feeding.{endInput, endInputs}
 use Rattle.mode.proofs.Counts.{pairs-are, even-left}
 use Rattle.mode.proofs.Ends.{Remains, length-ending}
 use Rattle.mode.proofs.Walk.{remains}

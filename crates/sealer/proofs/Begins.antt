@@ -1,12 +1,11 @@
 -- From the checks to what beginning promises. Assumes nothing.
-use mathlib.Core.Path.{_≡_, refl, sym, ap, ap₂, _∙_}
-use mathlib.Core.Bool.{Bool, true}
-use mathlib.Core.List.{List, _++_}
+use mathlib.Core.Path.{_≡_, sym, ap, ap₂, _∙_}
+use mathlib.Core.Bool.{Bool}
+use mathlib.Core.List.{List}
 use Prim.Native.Nat.{ℕ, _+_}
 use lib.ListN.{length}
 use Rattle.lists.specs.Zeros.{zeros}
 use Rattle.aes.specs.Cipher.{cipher}
-use Rattle.aes.specs.Expansion.{aes}
 use Rattle.aes.specs.Key.{expanded}
 use Rattle.block.specs.Block.{triple}
 use Rattle.mode.specs.Form.{formOf}
@@ -25,15 +24,15 @@ use Rattle.link.proofs.Verdicts.{Called, call-verdict, went-on}
 use Rattle.link.proofs.Entries.{cipher-is}
 use Rattle.sealer.specs.declared.Sealer.{Sealer}
 use Rattle.sealer.specs.declared.Step.{Step}
-use Rattle.sealer.specs.Sealers.{ended}
-use Rattle.sealer.specs.Promises.{startedBy, keyed, beginBy, beginning}
+use Rattle.sealer.specs.Sealers.{begunBy, ended}
+use Rattle.sealer.specs.Promises.{keyed, beginBy, beginning}
 
 -- under the record p, after j runs for it
 abbrev pub started : Prepared → ℕ → ℕ → List ℕ → List ℕ → ℕ → Step
 started p j form nonce ad t =
     record {
       answer = Done 0 (j + length (callInputs (cipherOf p) (p .zero) (formOf form) nonce ad t));
-      sealer = startedBy (cipherOf p) (p .zero) (p .rounds) (p .words) form nonce ad t;
+      sealer = begunBy (cipherOf p) (p .zero) (p .rounds) (p .words) form nonce ad t;
     }
 
 -- n is the number of the checks' answer r, and k whether the key is known

@@ -11,8 +11,8 @@ use Rattle.link.specs.declared.answer.Answer.{Answer}
 use Rattle.link.proofs.Verdicts.{went-on}
 use Rattle.sealer.specs.declared.Sealer.{Sealer}
 use Rattle.sealer.specs.declared.Step.{Step}
-use Rattle.sealer.specs.Sealers.{standing, ended, feedCheck, endCheck}
-use Rattle.sealer.specs.Promises.{StepBy, fedBy, Feeding, Ending}
+use Rattle.sealer.specs.Sealers.{standing, fedBy, ended, feedCheck, endCheck}
+use Rattle.sealer.specs.Promises.{StepBy, Feeds, Ends}
 use Rattle.sealer.proofs.Verdicts.{FeedFits, EndFits, feed-verdict, end-verdict}
 
 -- an answer that is not done: the very sealer, and the buffer as it was
@@ -29,8 +29,8 @@ passed c n come k bytes next s out r after = subst (λ (d : Check). StepBy d k b
 -- n is the number of the checks' answer r
 module _ (C : ℕ → List ℕ → List ℕ → List ℕ) (s : Sealer) (out : List ℕ) (r : Answer) (n : ℕ) (number : n ≡ numberOf r) where
   module _ (x : List ℕ) (is : r ≡ asAnswer (feedCheck (s .rounds) (s .tag) (s .fed) (length x) (length out))) where
-    pub feed-refused : (n ≡ 0 → ⊥) → Feeding C s x out (record { answer = r; sealer = s }) out
-    unfolding Feeding
+    pub feed-refused : (n ≡ 0 → ⊥) → Feeds C s x out (record { answer = r; sealer = s }) out
+    unfolding Feeds
     feed-refused z = stopped (feedCheck (s .rounds) (s .tag) (s .fed) (length x) (length out)) _ _ _ s out r is (λ h. z (number ∙ h))
 
     feed-went-on : n ≡ 0 → FeedFits (s .rounds) (s .tag) (s .fed) (length x) (length out)
@@ -42,15 +42,15 @@ module _ (C : ℕ → List ℕ → List ℕ → List ℕ) (s : Sealer) (out : Li
 
     pub feed-passed : n ≡ 0 → (step : Step) (after : List ℕ)
         → StepBy (pass (32 * pairsOf (keeps (s .fed) + length x))) (length (fedInputs (C (s .rounds) (s .words)) (standing s) x)) (fedBytes (C (s .rounds) (s .words)) (standing s) x) (fedBy s x) s out step after
-        → Feeding C s x out step after
-    unfolding Feeding
+        → Feeds C s x out step after
+    unfolding Feeds
     feed-passed z step after =
         passed (feedCheck (s .rounds) (s .tag) (s .fed) (length x) (length out)) (32 * pairsOf (keeps (s .fed) + length x)) (feed-went-on z .1)
         (length (fedInputs (C (s .rounds) (s .words)) (standing s) x)) (fedBytes (C (s .rounds) (s .words)) (standing s) x) (fedBy s x) s out step after
 
   module _ (is : r ≡ asAnswer (endCheck (s .rounds) (s .tag) (s .fed) (length out))) where
-    pub end-refused : (n ≡ 0 → ⊥) → Ending C s out (record { answer = r; sealer = s }) out
-    unfolding Ending
+    pub end-refused : (n ≡ 0 → ⊥) → Ends C s out (record { answer = r; sealer = s }) out
+    unfolding Ends
     end-refused z = stopped (endCheck (s .rounds) (s .tag) (s .fed) (length out)) _ _ _ s out r is (λ h. z (number ∙ h))
 
     end-went-on : n ≡ 0 → EndFits (s .rounds) (s .tag) (s .fed) (length out) × (endCheck (s .rounds) (s .tag) (s .fed) (length out) ≡ pass (keeps (s .fed) + s .tag))
@@ -61,8 +61,8 @@ module _ (C : ℕ → List ℕ → List ℕ → List ℕ) (s : Sealer) (out : Li
 
     pub end-passed : n ≡ 0 → (step : Step) (after : List ℕ)
         → StepBy (pass (keeps (s .fed) + s .tag)) (length (endInputs (C (s .rounds) (s .words)) (standing s))) (endBytes (C (s .rounds) (s .words)) (s .added) (s .tag) (standing s)) ended s out step after
-        → Ending C s out step after
-    unfolding Ending
+        → Ends C s out step after
+    unfolding Ends
     end-passed z step after =
         passed (endCheck (s .rounds) (s .tag) (s .fed) (length out)) (keeps (s .fed) + s .tag) (end-went-on z .1)
         (length (endInputs (C (s .rounds) (s .words)) (standing s))) (endBytes (C (s .rounds) (s .words)) (s .added) (s .tag) (standing s)) ended s out step after

@@ -8,7 +8,7 @@ use lib.Dec.{leb}
 use borrow.Author.Tests.{leb-true}
 use Rattle.mode.specs.Message.{pairsOf}
 use Rattle.mode.specs.Feeding.{keeps}
-use Rattle.mode.proofs.Counts.{pairs-within, rest-most}
+use Rattle.mode.proofs.Counts.{rest-most}
 use Rattle.link.specs.Checks.{from-to, knownRounds}
 use Rattle.link.specs.declared.answer.Answer.the-variants.{Length, Room, Ended}
 use Rattle.link.proofs.Verdicts.{Verdict, passes, checked, and-true, within}

@@ -3,23 +3,20 @@
 -- that of FIPS 197, does; the code's promises are those at `cipher`.
 use mathlib.Core.Path.{_≡_}
 use mathlib.Core.List.{List, _++_}
-use Prim.Native.Nat.{ℕ, _+_}
+use Prim.Native.Nat.{ℕ}
 use lib.ListN.{length}
 use Rattle.lists.specs.Lay.{lay}
 use Rattle.lists.specs.Zeros.{zeros}
 use Rattle.aes.specs.Key.{expanded}
-use Rattle.block.specs.Block.{triple}
 use Rattle.mode.specs.Form.{formOf}
 use Rattle.mode.specs.Data.{qInputs, withData}
-use Rattle.mode.specs.Sealing.{u, added, callInputs}
+use Rattle.mode.specs.Sealing.{callInputs}
 use Rattle.mode.specs.Feeding.{fedBytes, fedInputs, endBytes, endInputs}
 use Rattle.link.specs.Checks.{Check, pass, stop, knownKey, callCheck}
 use Rattle.link.specs.declared.answer.Answer.the-variants.{Done}
-use Rattle.parts.specs.State.{fedState}
-use Rattle.mode.specs.Feeding.{keeps}
 use Rattle.sealer.specs.declared.Sealer.{Sealer}
 use Rattle.sealer.specs.declared.Step.{Step}
-use Rattle.sealer.specs.Sealers.{standing, ended, feedCheck, endCheck}
+use Rattle.sealer.specs.Sealers.{standing, begunBy, fedBy, ended, feedCheck, endCheck}
 
 -- where the checks pass, n bytes are written after k runs and the sealer is `next`; where they stop, the very sealer s comes back, and the
 -- buffer stays
@@ -27,45 +24,15 @@ abbrev pub StepBy : Check → ℕ → List ℕ → Sealer → Sealer → List �
 StepBy (pass n) k bytes next s out r after = (r ≡ record { answer = Done n k; sealer = next }) × (after ≡ lay 0 bytes out)
 StepBy (stop c) k bytes next s out r after = (r ≡ record { answer = c; sealer = s }) × (after ≡ out)
 
--- ---- beginning: from the key, the nonce and the data U, the masks U and 3U of the first pair, and what goes into the tag. Here over the
--- cipher E of so many rounds and such round keys, and a first mask q of the data pass
-abbrev pub startedBy : (List ℕ → List ℕ) → List ℕ → ℕ → List ℕ → ℕ → List ℕ → List ℕ → ℕ → Sealer
-startedBy E q nr w form nonce ad t =
-    record {
-      rounds = nr;
-      words = w;
-      state =
-          record {
-            left = u E q (formOf form) nonce ad t;
-            right = triple (u E q (formOf form) nonce ad t);
-            sum = zeros 16;
-            kept = zeros 32;
-          };
-      added = added E q (formOf form) nonce ad t;
-      tag = t;
-      fed = 0;
-    }
-
--- ---- feeding: the sealer that has taken in the part x
-abbrev pub fedBy : Sealer → List ℕ → Sealer
-fedBy s x =
-    record {
-      rounds = s .rounds;
-      words = s .words;
-      state = fedState (s .state) (keeps (s .fed)) x;
-      added = s .added;
-      tag = s .tag;
-      fed = s .fed + length x;
-    }
-
 module _ (C : ℕ → List ℕ → List ℕ → List ℕ) where
-  -- under a key: checks 8 and 1 to 4; the blocks handed to the cipher are those of a call before its message pass
+  -- ---- beginning: checks 8 and 1 to 4, and a sealer that was fed nothing. The blocks handed to the cipher are those of a call before its
+  -- message pass
   abbrev pub keyed : List ℕ → List ℕ → List ℕ
   keyed key = C (expanded key .rounds) (expanded key .words)
 
   abbrev pub begunWith : ℕ → List ℕ → List ℕ → List ℕ → ℕ → Sealer
   begunWith form key nonce ad t =
-      startedBy (keyed key) (keyed key (zeros 16)) (expanded key .rounds) (expanded key .words) form nonce ad t
+      begunBy (keyed key) (keyed key (zeros 16)) (expanded key .rounds) (expanded key .words) form nonce ad t
 
   abbrev pub beginRuns : ℕ → List ℕ → List ℕ → List ℕ → ℕ → ℕ
   beginRuns form key nonce ad t =
@@ -81,16 +48,16 @@ module _ (C : ℕ → List ℕ → List ℕ → List ℕ) where
   beginning form key nonce ad t =
       beginBy (callCheck form (knownKey (length key)) (length nonce) t (length ad) (pass 0)) form key nonce ad t
 
-  -- the pairs that are due come out
-  unfoldable pub Feeding : Sealer → List ℕ → List ℕ → Step → List ℕ → Type 0
-  Feeding s x out r after =
+  -- ---- feeding the part x: the pairs that are due come out
+  unfoldable pub Feeds : Sealer → List ℕ → List ℕ → Step → List ℕ → Type 0
+  Feeds s x out r after =
       let E = C (s .rounds) (s .words) in
       StepBy (feedCheck (s .rounds) (s .tag) (s .fed) (length x) (length out)) (length (fedInputs E (standing s) x)) (fedBytes E (standing s) x)
       (fedBy s x) s out r after
 
   -- ---- ending: the rest and the tag come out
-  unfoldable pub Ending : Sealer → List ℕ → Step → List ℕ → Type 0
-  Ending s out r after =
+  unfoldable pub Ends : Sealer → List ℕ → Step → List ℕ → Type 0
+  Ends s out r after =
       let E = C (s .rounds) (s .words) in
       StepBy (endCheck (s .rounds) (s .tag) (s .fed) (length out)) (length (endInputs E (standing s))) (endBytes E (s .added) (s .tag) (standing s))
       ended s out r after

@@ -13,15 +13,15 @@ ghost use Rattle.mode.specs.Feeding.{keeps, fedBytes, fedInputs, endBytes, endI
 ghost use Rattle.link.specs.Checks.{pass};
 ghost use Rattle.link.specs.Prepared.{cipherOf};
 ghost use Rattle.link.specs.declared.answer.Answer.the-variants.{Done};
-ghost use Rattle.sealer.specs.Sealers.{standing, ended as endedAs};
-ghost use Rattle.sealer.specs.Promises.{StepBy, startedBy, beginning, fedBy, Feeding, Ending};
+ghost use Rattle.sealer.specs.Sealers.{standing, begunBy, fedBy, ended as endedAs};
+ghost use Rattle.sealer.specs.Promises.{StepBy, beginning, Feeds, Ends};
 use link::Answer;
 use link::Prepared;
 use parts::State;
 
 mod check;
 
-// A sealer goes on, or counts as ended: specs/Promises.antt says which. How many bytes it keeps follows from how many were fed.
+// A sealer goes on, or counts as ended: specs/Sealers.antt says which. How many bytes it keeps follows from how many were fed.
 pub struct Sealer {
     // The round count and the round keys.
     rounds: usize,
@@ -96,7 +96,7 @@ fn start(
     requires { ⌜ (10 ≤ key .rounds) × (key .rounds ≤ 14) ⌝ }
     requires { ⌜ (1 ≤ length (now nonce)) × ((length (now nonce) ≤ 15) × (tag ≤ 16)) ⌝ }
     requires { ⌜ (length (now ad) ≤ 4096) × (before ≤ 1) ⌝ }
-    ensures { λ r. ⌜ r ≡ record { answer = Done 0 (before + length (callInputs (cipherOf key) (key .zero) (formOf form) (now (nonce .entry)) (now (ad .entry)) tag)); sealer = startedBy (cipherOf key) (key .zero) (key .rounds) (key .words) form (now (nonce .entry)) (now (ad .entry)) tag } ⌝ }
+    ensures { λ r. ⌜ r ≡ record { answer = Done 0 (before + length (callInputs (cipherOf key) (key .zero) (formOf form) (now (nonce .entry)) (now (ad .entry)) tag)); sealer = begunBy (cipherOf key) (key .zero) (key .rounds) (key .words) form (now (nonce .entry)) (now (ad .entry)) tag } ⌝ }
 {
     let nr = key.rounds;
     let w = key.words;
@@ -130,7 +130,7 @@ fn start(
 
 impl Sealer {
     pub fn feed(mut self, part: &[u8], out: &mut [u8]) -> Step
-        ensures { λ r. ⌜ Feeding cipher self (now (part .entry)) (now (out .entry)) r (now (out .exit)) ⌝ }
+        ensures { λ r. ⌜ Feeds cipher self (now (part .entry)) (now (out .entry)) r (now (out .exit)) ⌝ }
     {
         let answer = check::feed(self.rounds, self.tag, self.fed, part.len(), out.len());
         if link::number(answer) != 0 {
@@ -177,7 +177,7 @@ impl Sealer {
     }
 
     pub fn end(mut self, out: &mut [u8]) -> Step
-        ensures { λ r. ⌜ Ending cipher self (now (out .entry)) r (now (out .exit)) ⌝ }
+        ensures { λ r. ⌜ Ends cipher self (now (out .entry)) r (now (out .exit)) ⌝ }
     {
         let answer = check::end(self.rounds, self.tag, self.fed, out.len());
         if link::number(answer) != 0 {

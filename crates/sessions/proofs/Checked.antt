@@ -1,5 +1,5 @@
 -- One call: what a refusal leaves, and what is known of a call that was accepted; a sealer that has ended stays so. Assumes nothing.
-use mathlib.Core.Path.{_≡_, refl, sym, ap, subst, _∙_}
+use mathlib.Core.Path.{_≡_, refl, sym, ap, subst}
 use mathlib.Core.Bool.{Bool, true, false}
 use mathlib.Core.List.{List}
 use Prim.Native.Nat.{ℕ, _+_, _*_}
@@ -15,8 +15,8 @@ use Rattle.link.specs.declared.answer.Answer.{Answer}
 use Rattle.link.specs.declared.answer.Answer.the-variants.{Done, Length, Room, Ended}
 use Rattle.sealer.specs.declared.Sealer.{Sealer}
 use Rattle.sealer.specs.declared.Step.{Step}
-use Rattle.sealer.specs.Sealers.{goesOn, standing, ended, feedCheck, endCheck}
-use Rattle.sealer.specs.Promises.{StepBy, fedBy, Feeding, Ending}
+use Rattle.sealer.specs.Sealers.{goesOn, standing, fedBy, ended, feedCheck, endCheck}
+use Rattle.sealer.specs.Promises.{StepBy, Feeds, Ends}
 use Rattle.sessions.specs.Sessions.{Call, feed, end, buffer, Kept}
 
 -- a refusal: it is not done, has no length and no runs
@@ -84,15 +84,15 @@ module _ (C : ℕ → List ℕ → List ℕ → List ℕ) (s : Sealer) where
   abbrev E : List ℕ → List ℕ
   E = C (s .rounds) (s .words)
 
-  pub feed-outcome : (x out : List ℕ) (r : Step) (after : List ℕ) → Feeding C s x out r after
+  pub feed-outcome : (x out : List ℕ) (r : Step) (after : List ℕ) → Feeds C s x out r after
       → Outcome (feedCheck (s .rounds) (s .tag) (s .fed) (length x) (length out)) (length (fedInputs E (standing s) x)) (fedBytes E (standing s) x) (fedBy s x) s out r after
-  unfolding Feeding
+  unfolding Feeds
   feed-outcome x out r after h =
       outcome (feedCheck (s .rounds) (s .tag) (s .fed) (length x) (length out)) (feed-plain (s .rounds) (s .tag) (s .fed) (length x) (length out)) _ _ _ s out r after h
 
-  pub end-outcome : (out : List ℕ) (r : Step) (after : List ℕ) → Ending C s out r after
+  pub end-outcome : (out : List ℕ) (r : Step) (after : List ℕ) → Ends C s out r after
       → Outcome (endCheck (s .rounds) (s .tag) (s .fed) (length out)) (length (endInputs E (standing s))) (endBytes E (s .added) (s .tag) (standing s)) ended s out r after
-  unfolding Ending
+  unfolding Ends
   end-outcome out r after h =
       outcome (endCheck (s .rounds) (s .tag) (s .fed) (length out)) (end-plain (s .rounds) (s .tag) (s .fed) (length out)) _ _ _ s out r after h
 
@@ -112,7 +112,7 @@ module _ (C : ℕ → List ℕ → List ℕ → List ℕ) (s : Sealer) where
   -- a sealer that has ended stays ended: 9, whatever the call
   pub stays-ended : goesOn (s .rounds) (s .tag) (s .fed) ≡ false → (c : Call) (r : Step) (after : List ℕ) → Kept C s c r after
       → (r ≡ record { answer = Ended; sealer = s }) × (after ≡ buffer c)
-  unfolding Feeding feedCheck Ending endCheck
+  unfolding Feeds feedCheck Ends endCheck
   stays-ended over (feed x out) r after h =
       by-ended (goesOn (s .rounds) (s .tag) (s .fed)) over _ (length (fedInputs E (standing s) x)) (fedBytes E (standing s) x) (fedBy s x) s out r after h
   stays-ended over (end out) r after h =

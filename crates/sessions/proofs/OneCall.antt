@@ -1,12 +1,11 @@
 -- The same with the cipher of FIPS 197, against the one call of `link`: the bytes and the runs of a session that has ended are those of
 -- sealing at once. Assumes nothing.
-use mathlib.Core.Path.{_≡_, refl, sym, ap, ap₂, subst, _∙_}
+use mathlib.Core.Path.{_≡_, sym, ap, ap₂, subst, _∙_}
 use mathlib.Core.List.{List}
 use Prim.Native.Nat.{ℕ, _+_}
 use native.Mathlib.Omega.{arith}
 use lib.ListN.{length, take, drop}
 use lib.Seq.{take-at}
-use Rattle.lists.specs.Lay.{lay}
 use Rattle.lists.specs.Zeros.{zeros}
 use Rattle.aes.specs.Cipher.{cipher}
 use Rattle.aes.specs.Expansion.{aes}
@@ -15,15 +14,14 @@ use Rattle.mode.specs.Sealing.{otr, otrInputs}
 use Rattle.mode.proofs.Third.{length-otr}
 use Rattle.pairs.proofs.Cipher.{is-cipher}
 use Rattle.link.specs.Answers.{numberOf, lengthOf, runsOf}
-use Rattle.link.specs.Checks.{Check, pass, stop, knownKey, sealCheck}
+use Rattle.link.specs.Checks.{Check, pass, knownKey}
 use Rattle.link.specs.Promises.{sealing, sealRuns, SealsBy, Seals}
 use Rattle.link.specs.declared.answer.Answer.{Answer}
-use Rattle.link.specs.declared.answer.Answer.the-variants.{Done}
 use Rattle.link.proofs.Verdicts.{Verdict, passes, stops, SealFits, seal-verdict}
 use Rattle.link.proofs.Entries.{cipher-is, aes-cipher, aes-ta}
 use Rattle.sealer.specs.declared.Sealer.{Sealer}
 use Rattle.sealer.specs.Sealers.{ended}
-use Rattle.sealer.specs.Promises.{keyed, beginning}
+use Rattle.sealer.specs.Promises.{beginning}
 use Rattle.sessions.specs.Sessions.{Session, Came, goes-on, has-ended}
 use Rattle.sessions.proofs.Sessions.{begun-with, any-session}
 

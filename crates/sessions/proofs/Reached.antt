@@ -2,28 +2,23 @@
 -- Over any cipher C, and a key, a nonce and data with which a beginning was accepted. Assumes nothing.
 use mathlib.Core.Path.{_≡_, refl, sym, ap, ap₂, _∙_}
 use mathlib.Core.List.{List, [], _++_}
-use Prim.Native.Nat.{ℕ, _+_, _-_, _*_, _≤_}
-use native.Mathlib.Nat.{zero-add}
-use native.Mathlib.Omega.{arith}
-use lib.ListN.{length, take, drop, length-append, length-drop}
+use Prim.Native.Nat.{ℕ, _+_, _-_, _*_}
+use lib.ListN.{length, drop, length-append, length-drop}
 use lib.Seq.{take-at}
-use Rattle.lists.specs.Lay.{lay}
-use Rattle.lists.specs.Xor.{xor}
 use Rattle.lists.specs.Zeros.{zeros}
-use Rattle.lists.proofs.Zeros.{length-zeros}
 use Rattle.aes.specs.Key.{expanded}
 use Rattle.block.specs.Block.{triple}
-use Rattle.mode.specs.Form.{Form, formOf}
-use Rattle.mode.specs.Masks.{Masks, IsCipher, AreMasks, doubles, doubled, third}
+use Rattle.mode.specs.Form.{formOf}
+use Rattle.mode.specs.Masks.{Masks, doubles, third}
 use Rattle.mode.specs.Message.{blocks, pairsOf, rest, sum}
 use Rattle.mode.specs.Sealing.{u, masks, added}
-use Rattle.mode.specs.Feeding.{Between, from, keeps, due, fed}
+use Rattle.mode.specs.Feeding.{Between, keeps, due, fed}
 use Rattle.mode.proofs.Feeding.{reached, reached-fed, count-fed, doubles-add, from-doubled}
 use Rattle.parts.specs.declared.State.{State}
-use Rattle.parts.specs.State.{between, kept32, behindState, fedState}
+use Rattle.parts.specs.State.{between, kept32, fedState}
 use Rattle.sealer.specs.declared.Sealer.{Sealer}
-use Rattle.sealer.specs.Sealers.{standing}
-use Rattle.sealer.specs.Promises.{keyed, begunWith, fedBy}
+use Rattle.sealer.specs.Sealers.{standing, fedBy}
+use Rattle.sealer.specs.Promises.{keyed, begunWith}
 
 -- ---- the state, where U is the first mask
 module _ (U : List ℕ) where

@@ -2,12 +2,12 @@
 -- what one call seals, as long as wish 3 says, and after the end it is all of that; and so with the runs. For any cipher and both forms.
 -- Assumes nothing.
 use mathlib.Core.Path.{_≡_, refl, sym, ap, ap₂, subst, _∙_}
-use mathlib.Core.Bool.{Bool, true, false, _&&_}
-use mathlib.Core.List.{List, [], _∷_, _++_, append-assoc, append-nil}
-use Prim.Native.Nat.{ℕ, zero, suc, _+_, _-_, _*_, _/_, _≤_}
+use mathlib.Core.Bool.{Bool, true}
+use mathlib.Core.List.{List, [], _++_, append-assoc, append-nil}
+use Prim.Native.Nat.{ℕ, zero, suc, _+_, _-_, _*_, _≤_}
 use native.Mathlib.Nat.{add-zero, zero-add, add-assoc}
 use native.Mathlib.Omega.{arith}
-use lib.Dec.{eqb, leb}
+use lib.Dec.{eqb}
 use lib.ListN.{length, take, drop, length-append, length-drop}
 use lib.Seq.{take-at}
 use borrow.Author.Tests.{le-leb, ne-eqb}
@@ -19,24 +19,23 @@ use Rattle.mode.specs.Form.{Form, formOf}
 use Rattle.mode.specs.Masks.{Masks, IsCipher, AreMasks}
 use Rattle.mode.specs.Message.{blocks, pairsOf, rest, pairs, pairsInputs}
 use Rattle.mode.specs.Data.{qInputs, withData}
-use Rattle.mode.specs.Sealing.{dataTag, masks, added, sealed, sealedInputs, callInputs, otr, otrInputs}
-use Rattle.mode.specs.Feeding.{Between, keeps, due, fedBytes, fedInputs, endBytes, endInputs}
+use Rattle.mode.specs.Sealing.{dataTag, masks, added, sealedInputs, callInputs, otr, otrInputs}
+use Rattle.mode.specs.Feeding.{Between, keeps, fedBytes, fedInputs, endBytes, endInputs}
 use Rattle.mode.proofs.Counts.{pairs-are, pairs-within}
 use Rattle.mode.proofs.Pairs.{length-pairs}
 use Rattle.mode.proofs.Data.{length-dataTag}
-use Rattle.mode.proofs.Third.{otr-masks, length-added, length-otr}
+use Rattle.mode.proofs.Third.{otr-masks, length-otr}
 use Rattle.mode.proofs.Feeding.{reached, fed-joined, fed-inputs-joined, end-joined, end-inputs-joined, count-fed}
 use Rattle.link.specs.Answers.{numberOf, lengthOf, runsOf}
-use Rattle.link.specs.Checks.{Check, pass, stop, from-to, knownKey, knownRounds, callCheck}
-use Rattle.link.specs.declared.answer.Answer.{Answer}
+use Rattle.link.specs.Checks.{Check, pass, stop, knownKey, callCheck}
 use Rattle.link.specs.declared.answer.Answer.the-variants.{Done}
 use Rattle.link.proofs.Verdicts.{Verdict, passes, stops, Called, call-verdict, pass-or-stop, sure}
 use Rattle.link.proofs.Entries.{rounds-known}
 use Rattle.sealer.specs.declared.Sealer.{Sealer}
 use Rattle.sealer.specs.declared.Step.{Step}
-use Rattle.sealer.specs.Sealers.{goesOn, standing, ended, feedCheck, endCheck}
-use Rattle.sealer.specs.Promises.{keyed, begunWith, beginRuns, beginBy, beginning, fedBy, Feeding, Ending}
-use Rattle.sealer.proofs.Verdicts.{FeedFits, feed-verdict, end-verdict}
+use Rattle.sealer.specs.Sealers.{goesOn, standing, fedBy, ended, feedCheck, endCheck}
+use Rattle.sealer.specs.Promises.{keyed, begunWith, beginRuns, beginBy, beginning, Feeds, Ends}
+use Rattle.sealer.proofs.Verdicts.{feed-verdict, end-verdict}
 use Rattle.sessions.specs.Sessions.{outAfter, Call, feed, end, buffer, Kept, fedIf, takenIn, Session, none, call, Came, goes-on, has-ended}
 use Rattle.sessions.proofs.Checked.{Refusal, is-ended, Unchanged, Outcome, accepted, refused, feed-outcome, end-outcome, stays-ended}
 use Rattle.sessions.proofs.Reached.{sealerAt, sealer-none, sealer-stands, sealer-fed}
@@ -171,7 +170,7 @@ module _ (C : ℕ → List ℕ → List ℕ → List ℕ) (ciphers : (nr : ℕ) 
       stands = going refl short refl refl
 
       -- a part fed
-      after-feed : (x out : List ℕ) (r : Step) (after : List ℕ) → Feeding C S x out r after
+      after-feed : (x out : List ℕ) (r : Step) (after : List ℕ) → Feeds C S x out r after
           → Stands (m ++ takenIn (feed x out) r) (O ++ take (lengthOf (r .answer)) after) (J + runsOf (r .answer)) (r .sealer)
       unfolding S O J
       after-feed x out r after h = go (feed-outcome C S x out r after h)
@@ -201,7 +200,7 @@ module _ (C : ℕ → List ℕ → List ℕ → List ℕ) (ciphers : (nr : ℕ) 
               (going refl most refl refl)
 
       -- the end
-      after-end : (out : List ℕ) (r : Step) (after : List ℕ) → Ending C S out r after
+      after-end : (out : List ℕ) (r : Step) (after : List ℕ) → Ends C S out r after
           → Stands (m ++ takenIn (end out) r) (O ++ take (lengthOf (r .answer)) after) (J + runsOf (r .answer)) (r .sealer)
       unfolding S O J
       after-end out r after h = go (end-outcome C S out r after h)
@@ -232,10 +231,10 @@ module _ (C : ℕ → List ℕ → List ℕ → List ℕ) (ciphers : (nr : ℕ) 
     unfolding S O J
     step m o j s (going hs short ho hj) (feed x out) r after h =
         moved _ _ _ _ _ _ _ _ refl (ap (λ (l : List ℕ). l ++ take (lengthOf (r .answer)) after) (sym ho)) (ap (λ (n : ℕ). n + runsOf (r .answer)) (sym hj)) refl
-        (after-feed m short x out r after (subst (λ (z : Sealer). Feeding C z x out r after) hs h))
+        (after-feed m short x out r after (subst (λ (z : Sealer). Feeds C z x out r after) hs h))
     step m o j s (going hs short ho hj) (end out) r after h =
         moved _ _ _ _ _ _ _ _ refl (ap (λ (l : List ℕ). l ++ take (lengthOf (r .answer)) after) (sym ho)) (ap (λ (n : ℕ). n + runsOf (r .answer)) (sym hj)) refl
-        (after-end m short out r after (subst (λ (z : Sealer). Ending C z out r after) hs h))
+        (after-end m short out r after (subst (λ (z : Sealer). Ends C z out r after) hs h))
     step m o j s (over hs ho hj) c r after h =
         let q = stays-ended C s (ap (λ (z : Sealer). goesOn (z .rounds) (z .tag) (z .fed)) hs) c r after h in
         unchanged m o j s (over hs ho hj) c r after

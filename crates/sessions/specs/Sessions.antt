@@ -9,7 +9,7 @@ use Rattle.link.specs.Answers.{numberOf, lengthOf, runsOf}
 use Rattle.sealer.specs.declared.Sealer.{Sealer}
 use Rattle.sealer.specs.declared.Step.{Step}
 use Rattle.sealer.specs.Sealers.{goesOn, ended}
-use Rattle.sealer.specs.Promises.{Feeding, Ending}
+use Rattle.sealer.specs.Promises.{Feeds, Ends}
 
 -- after n bytes fed so many are out (document 02, wish 3): nothing if n is 0, otherwise 32·(⌈n/32⌉ − 1)
 abbrev pub outAfter : ℕ → ℕ
@@ -27,8 +27,8 @@ buffer (end out) = out
 
 -- that it keeps its promise, with the step r and the buffer after
 abbrev pub Kept : (ℕ → List ℕ → List ℕ → List ℕ) → Sealer → Call → Step → List ℕ → Type 0
-Kept C s (feed x out) r after = Feeding C s x out r after
-Kept C s (end out) r after = Ending C s out r after
+Kept C s (feed x out) r after = Feeds C s x out r after
+Kept C s (end out) r after = Ends C s out r after
 
 -- the bytes that a call takes in: those of a part that was accepted
 abbrev pub fedIf : Bool → List ℕ → List ℕ

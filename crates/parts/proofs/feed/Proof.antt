@@ -1,11 +1,11 @@
 -- `parts::feed` meets its contract. Assumes nothing.
-use mathlib.Core.Path.{_≡_, sym, ap, ap₂, _∙_}
+use mathlib.Core.Path.{_≡_, ap, ap₂, _∙_}
 use mathlib.Core.List.{List, _++_}
 use Prim.Native.Nat.{ℕ, _+_, _-_, _*_, _≤_}
 use native.Mathlib.Omega.{arith}
 use lib.ListN.{length, take, drop, length-drop}
 use Rattle.lists.specs.Lay.{lay}
-use Rattle.lists.proofs.Laid.{lay-part, length-lay}
+use Rattle.lists.proofs.Laid.{lay-part}
 use Rattle.aes.specs.Cipher.{cipher}
 use Rattle.mode.specs.Masks.{Masks, doubles, doubled}
 use Rattle.mode.specs.Message.{pairs}

@@ -3,7 +3,6 @@ use mathlib.Core.Path.{_≡_, ap, ap₂, _∙_}
 use mathlib.Core.List.{List}
 use Prim.Native.Nat.{ℕ, _+_, _*_}
 use native.Mathlib.Omega.{arith}
-use lib.ListN.{length}
 use Rattle.aes.specs.Cipher.{cipher}
 use Rattle.mode.specs.Masks.{doubles, doubled}
 use Rattle.mode.proofs.Runs.{length-pairsInputs}

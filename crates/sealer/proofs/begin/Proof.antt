@@ -1,5 +1,5 @@
 -- `sealer::begin` meets its promise. Assumes nothing.
-use mathlib.Core.Path.{_≡_, sym, ap, subst, _∙_}
+use mathlib.Core.Path.{sym, ap, subst, _∙_}
 use Prim.Native.Nat.{_≤_}
 use lib.ListN.{length}
 use Rattle.mode.specs.Data.{withData}

@@ -1,5 +1,5 @@
 -- `sealer::ended` meets its contract: zeros all over. Assumes nothing.
-use mathlib.Core.Path.{_≡_, ap, ap₂, _∙_}
+use mathlib.Core.Path.{ap, ap₂, _∙_}
 use mathlib.Core.List.{List}
 use Prim.Native.Nat.{ℕ}
 use Rattle.lists.specs.Zeros.{zeros}

@@ -1,9 +1,9 @@
 -- `sealer::Sealer::take_in` meets its contract: the pairs that are due go out, or none is and all is kept. Assumes nothing.
-use mathlib.Core.Path.{_≡_, refl, sym, ap, ap₂, _∙_}
-use mathlib.Core.List.{List, [], _++_}
-use Prim.Native.Nat.{ℕ, _+_, _*_, _≤_}
+use mathlib.Core.Path.{_≡_, sym, ap, ap₂, _∙_}
+use mathlib.Core.List.{List, _++_}
+use Prim.Native.Nat.{ℕ, _+_, _*_}
 use native.Mathlib.Omega.{arith}
-use lib.ListN.{length, take, length-append}
+use lib.ListN.{length, take}
 use Rattle.lists.specs.Lay.{lay}
 use Rattle.lists.proofs.Laid.{front-none}
 use Rattle.aes.specs.Cipher.{cipher}
@@ -17,8 +17,7 @@ use Rattle.parts.specs.State.{between, fedState}
 use Rattle.parts.proofs.Feeds.{hand-long}
 use borrow.Author.Needs.{needs}
 use Rattle.sealer.specs.declared.Sealer.{Sealer}
-use Rattle.sealer.specs.Sealers.{standing}
-use Rattle.sealer.specs.Promises.{fedBy}
+use Rattle.sealer.specs.Sealers.{standing, fedBy}
 use Rattle.sealer.proofs.Verdicts.{keeps-most}
 use Rattle.sealer.proofs.Sealer.take_in.Statement.{statement}
 use Rattle.sealer.proofs.Sealer.take_in.Tie as tie
