@@ -1,6 +1,6 @@
 // The sealed link: AES-OTR v3.1, sealed and opened in one call each, with parallel (form 0) or serial (form 1) associated data, under a
 // raw key or under a prepared one. No entry point asks anything of its caller; what they promise is in specs/Promises.antt and
-// specs/Prepared.antt.
+// specs/Prepared.antt. The checks and `own_record` are public for `sealer`, which begins as a call with a raw key does.
 ghost use Rattle.link.specs.Promises.{Seals, Opens, SealsWith, OpensWith};
 
 mod answer;

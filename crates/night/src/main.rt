@@ -1,12 +1,17 @@
-// Makes one sealing so many times, under a raw key or under a prepared one, for bench/run to count what a prepared key saves
-// (document 02, wish 9: the mount uses a key all night). The calls from C take no prepared key.
+// Makes one sealing so many times, for bench/run to count what the calls from C do not offer: a prepared key (document 02, wish 9: the
+// mount uses a key all night), and sealing in parts (wish 3).
 //
 //     night raw|prepared KEY_BYTES MESSAGE_BYTES CALLS
+//     night parts PART_BYTES KEY_BYTES MESSAGE_BYTES CALLS
+//     night idle FEEDS KEY_BYTES MESSAGE_BYTES CALLS
 //
 // The form is parallel, the nonce has 12 bytes, the data 16 and the tag 16. Byte i of each string is (7 i + 3) mod 256, as in
-// bench/case.rs. A key is prepared once, before the calls. The answer is the line `NUMBER LENGTH RUNS TAG` of the last call, where TAG
-// is the last 16 bytes of the output, in hexadecimal, all 00 where nothing was written. Told anything else, it says on standard error
-// how it is used, and nothing more.
+// bench/case.rs. A key is prepared once, before the calls. In parts a call is a session, with a sealer of its own: `parts` feeds it
+// PART_BYTES bytes at a time, and in the end what is left; `idle` feeds it the message at once, and then no bytes FEEDS times, so that
+// what a feed costs by itself can be told. The answer is the line `NUMBER LENGTH RUNS TAG` of the last call, where TAG is the last 16
+// bytes of the output, in hexadecimal, all 00 where nothing was written. For a session it is the line of the one call: lengths and runs
+// are added up, and the first refusal stands for all. Told anything else, it says on standard error how it is used, and nothing more.
+mod session;
 mod told;
 
 ghost use Prim.Native.Nat.{_≤_};
@@ -28,36 +33,79 @@ const MOST_KEY: usize = 32;
 
 const MOST_MESSAGE: usize = 16384;
 
+// How the message is sealed.
+enum Way {
+    Raw,
+    Prepared,
+    // So many bytes at a time, and then so many feeds of no bytes.
+    Parts { bytes: usize, idle: usize },
+}
+
 fn main() {
-    let prepared = told::is_at(1, b"prepared");
-    if !prepared && !told::is_at(1, b"raw") {
+    if told::is_at(1, b"raw") {
+        return run_told(Way::Raw, 2);
+    }
+    if told::is_at(1, b"prepared") {
+        return run_told(Way::Prepared, 2);
+    }
+    let Parsed::Value(own) = told::number_at(2) else {
+        return usage();
+    };
+    if told::is_at(1, b"idle") {
+        // no message is longer than such a part
+        return run_told(
+            Way::Parts {
+                bytes: MOST_MESSAGE,
+                idle: own,
+            },
+            3,
+        );
+    }
+    if !told::is_at(1, b"parts") || own == 0 || MOST_MESSAGE < own {
         return usage();
     }
-    let Parsed::Value(key) = told::number_at(2) else {
-        return usage();
-    };
-    let Parsed::Value(message) = told::number_at(3) else {
-        return usage();
-    };
-    let Parsed::Value(calls) = told::number_at(4) else {
-        return usage();
-    };
-    // The program's name is counted too.
-    if os::arg_count() != 5 || MOST_KEY < key || MOST_MESSAGE < message || calls == 0 {
-        return usage();
-    }
-    run(prepared, key, message, calls);
+    run_told(
+        Way::Parts {
+            bytes: own,
+            idle: 0,
+        },
+        3,
+    );
 }
 
 fn usage() {
     io::write_all(
         STDERR_FILENO,
-        b"usage: night raw|prepared KEY_BYTES MESSAGE_BYTES CALLS (at most 32, at most 16384, 1 to 65535)\n",
+        b"usage: night raw | prepared | parts PART_BYTES | idle FEEDS, and then KEY_BYTES MESSAGE_BYTES CALLS ",
+    );
+    io::write_all(
+        STDERR_FILENO,
+        b"(1 to 16384, at most 65535, at most 32, at most 16384, 1 to 65535)\n",
     );
 }
 
+// With the words that every way is told, from word `first` to the last.
+fn run_told(way: Way, first: usize)
+    requires { ⌜ first ≤ 3 ⌝ }
+{
+    let Parsed::Value(key) = told::number_at(first) else {
+        return usage();
+    };
+    let Parsed::Value(message) = told::number_at(first + 1) else {
+        return usage();
+    };
+    let Parsed::Value(calls) = told::number_at(first + 2) else {
+        return usage();
+    };
+    // The program's name is counted too.
+    if os::arg_count() != first + 3 || MOST_KEY < key || MOST_MESSAGE < message || calls == 0 {
+        return usage();
+    }
+    run(way, key, message, calls);
+}
+
 // With a key and a message of so many bytes.
-fn run(prepared: bool, key: usize, message: usize, calls: usize)
+fn run(way: Way, key: usize, message: usize, calls: usize)
     requires { ⌜ key ≤ 32 ⌝ }
     requires { ⌜ message ≤ 16384 ⌝ }
 {
@@ -65,7 +113,7 @@ fn run(prepared: bool, key: usize, message: usize, calls: usize)
     fill(&mut string);
     let mut output = io::large_buffer();
     let out = &mut output[0..message + TAG_BYTES];
-    let answer = seal(prepared, &string, key, message, out, calls);
+    let answer = seal(way, &string, key, message, out, calls);
     print(answer, out);
 }
 
@@ -83,7 +131,7 @@ fn byte_at(i: usize) -> u8 {
 
 // Each of the four strings is the start of the one that is lent.
 fn seal(
-    prepared: bool,
+    way: Way,
     string: &[u8],
     key: usize,
     message: usize,
@@ -96,24 +144,20 @@ fn seal(
 {
     let nonce = &string[0..NONCE_BYTES];
     let data = &string[0..DATA_BYTES];
-    if prepared {
-        seal_prepared(
+    let text = &string[0..message];
+    match way {
+        Way::Raw => seal_raw(&string[0..key], nonce, data, text, out, calls),
+        Way::Prepared => seal_prepared(&string[0..key], nonce, data, text, out, calls),
+        Way::Parts { bytes, idle } => session::seal(
             &string[0..key],
             nonce,
             data,
-            &string[0..message],
+            text,
+            bytes,
+            idle,
             out,
             calls,
-        )
-    } else {
-        seal_raw(
-            &string[0..key],
-            nonce,
-            data,
-            &string[0..message],
-            out,
-            calls,
-        )
+        ),
     }
 }
 
