@@ -76,7 +76,7 @@ pub fn open(
 }
 
 /// 8, then 1 to 4: the number of the refusal, or what the passes need.
-fn checked_to_4(
+pub fn checked_to_4(
     form: usize,
     key: &Key,
     nonce: &[u8],
@@ -97,7 +97,7 @@ fn checked_to_4(
 }
 
 /// No cipher has run by then. Only 7 comes after the passes: it puts its runs in.
-fn refused(number: u8) -> Answer {
+pub fn refused(number: u8) -> Answer {
     Answer {
         number,
         length: 0,
@@ -105,7 +105,7 @@ fn refused(number: u8) -> Answer {
     }
 }
 
-fn done(result: &[u8], runs: usize, output: &mut [u8]) -> Answer {
+pub fn done(result: &[u8], runs: usize, output: &mut [u8]) -> Answer {
     output[..result.len()].copy_from_slice(result);
     Answer {
         number: 0,

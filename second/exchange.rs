@@ -1,5 +1,6 @@
 //! One line to the console, and the line that it must answer, each with its end.
 
+use crate::call::Answer;
 use crate::hex;
 use crate::record::prepare;
 use crate::request::Request;
@@ -11,9 +12,16 @@ pub struct Exchange {
 
 impl Exchange {
     pub fn of_call(request: &Request) -> Exchange {
+        let (answer, output) = request.call();
+        Exchange::answered(request.request_line(), &answer, &output)
+    }
+
+    /// The request's line as it stands, answered by `NUMBER LENGTH RUNS OUTPUT`.
+    pub fn answered(request: String, answer: &Answer, output: &[u8]) -> Exchange {
+        let (number, length, runs) = (answer.number, answer.length, answer.runs);
         Exchange {
-            request: request.request_line(),
-            answer: request.answer_line(),
+            request,
+            answer: format!("{number} {length} {runs} {}\n", hex::field(output)),
         }
     }
 

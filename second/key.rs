@@ -23,6 +23,14 @@ impl Key {
         }
     }
 
+    /// The bytes of a raw key; None of a record.
+    pub fn raw(&self) -> Option<&[u8]> {
+        match self {
+            Key::Raw(key) => Some(key),
+            Key::Prepared(_) => None,
+        }
+    }
+
     /// What preparing a raw key gives; a record is itself.
     pub fn record(&self) -> Record {
         match self {

@@ -1,5 +1,5 @@
 //! Shaftladder's independent second program: AES-OTR v3.1 with parallel and serial ADP,
-//! written from the paper (000) and the exact rules (01, and wishes 1, 5, 6 and 9 of 02)
+//! written from the paper (000) and the exact rules (01, and wishes 1, 3, 5, 6 and 9 of 02)
 //! alone. See README.md.
 
 mod aes;
@@ -7,7 +7,9 @@ mod aes_rows;
 mod bits;
 mod block;
 mod call;
+mod console_sealer;
 mod data_pass;
+mod division;
 mod exchange;
 mod failure;
 mod files;
@@ -20,6 +22,10 @@ mod known;
 mod message_pass;
 mod night;
 mod otr;
+mod otr_parts;
+mod parts;
+#[cfg(test)]
+mod parts_tests;
 mod prepared;
 #[cfg(test)]
 mod prepared_tests;
@@ -32,12 +38,17 @@ mod rows;
 mod rules;
 #[cfg(test)]
 mod runs_tests;
+mod sealer;
 mod seam_lengths;
 mod seam_requests;
 mod seams;
 #[cfg(test)]
 mod serial_tests;
+mod session;
+#[cfg(test)]
+mod session_tests;
 mod standin;
+mod standin_parts;
 #[cfg(test)]
 mod tests;
 mod tour;
@@ -77,12 +88,14 @@ fn run(words: &[String]) -> Result<String, Failure> {
     match (command.as_str(), rest) {
         ("standin", []) => Ok(standin::command()),
         ("standin-lent", []) => Ok(standin::command_lent()),
+        ("standin-parts", []) => Ok(standin_parts::command()),
         ("aes-rows", []) => Ok(aes_rows::command()),
         ("seams", [requests, answers]) => seams::command(requests, answers),
         ("tour", [requests, answers]) => tour::command(requests, answers),
         ("firmware", [form, requests, answers]) => firmware::command(form, requests, answers),
         ("requests", _) => requests::command(rest),
         ("prepared", _) => prepared::command(rest),
+        ("parts", _) => parts::command(rest),
         ("night", []) => Ok(night::command()),
         ("known", _) => known::command(rest),
         _ => Err(usage()),
@@ -92,12 +105,14 @@ fn run(words: &[String]) -> Result<String, Failure> {
 fn usage() -> Failure {
     let text = "usage: second standin\n\
                 \u{20}      second standin-lent\n\
+                \u{20}      second standin-parts\n\
                 \u{20}      second aes-rows\n\
                 \u{20}      second seams FILE_REQUESTS FILE_ANSWERS\n\
                 \u{20}      second tour FILE_REQUESTS FILE_ANSWERS\n\
                 \u{20}      second firmware FORM FILE_REQUESTS FILE_ANSWERS\n\
                 \u{20}      second requests SEED COUNT FILE_REQUESTS FILE_ANSWERS\n\
                 \u{20}      second prepared SEED COUNT FILE_REQUESTS FILE_ANSWERS\n\
+                \u{20}      second parts SEED COUNT FILE_REQUESTS FILE_ANSWERS\n\
                 \u{20}      second night\n\
                 \u{20}      second known FILE...";
     bad_input(text.to_string())

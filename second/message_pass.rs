@@ -11,7 +11,7 @@ use crate::block::{
 };
 
 /// What EF and DF carry from chunk to chunk.
-struct Core<'a> {
+pub struct Core<'a> {
     e: Cipher<'a>,
     sigma: Block,
     l: Block,
@@ -27,6 +27,17 @@ impl<'a> Core<'a> {
             l: *u,
             l_sharp: times_3(u),
         }
+    }
+
+    /// As the message's first blocks, full and an even number, leave it in EF: lines 7 and 8
+    /// for each two of them. Neither line has an E, so none runs.
+    pub fn behind(e: Cipher<'a>, u: &Block, blocks: &[&[u8]]) -> Core<'a> {
+        let mut core = Core::start(e, u);
+        for pair in blocks.chunks(2) {
+            core.add_to_sigma(&full(pair[1]));
+            core.step();
+        }
+        core
     }
 
     fn e_l(&self, x: &Block) -> Block {
@@ -72,23 +83,30 @@ impl<'a> Core<'a> {
 pub fn ef(e: Cipher, u: &Block, message: &[u8]) -> (Vec<u8>, Block) {
     let mut core = Core::start(e, u);
     let blocks = partition(message);
-    let m = blocks.len();
-    let mut c = Vec::with_capacity(message.len());
-    // i = 1 to ceil(m/2) - 1; the paper's M[j] is blocks[j - 1].
-    for i in 1..m.div_ceil(2) {
-        c.extend(ef_pair(
-            &mut core,
-            &full(blocks[2 * i - 2]),
-            &full(blocks[2 * i - 1]),
-        ));
-    }
-    if m % 2 == 0 {
-        c.extend(ef_last_two(&mut core, &full(blocks[m - 2]), blocks[m - 1]));
+    // i = 1 to ceil(m/2) - 1.
+    let (pairs, last) = blocks.split_at(2 * (blocks.len().div_ceil(2) - 1));
+    let c = ef_pairs(&mut core, pairs);
+    let (c_last, te) = ef_last(&mut core, last);
+    ([c, c_last].concat(), te)
+}
+
+/// EF, lines 5 to 8, for each two blocks.
+pub fn ef_pairs(core: &mut Core, blocks: &[&[u8]]) -> Vec<u8> {
+    blocks
+        .chunks(2)
+        .flat_map(|pair| ef_pair(core, &full(pair[0]), &full(pair[1])))
+        .collect()
+}
+
+/// EF, lines 9 to 20, for what remains: where m is even M[m - 1] and M[m], else M[m].
+pub fn ef_last(core: &mut Core, blocks: &[&[u8]]) -> (Vec<u8>, Block) {
+    let last = blocks[blocks.len() - 1];
+    let c = if blocks.len() % 2 == 0 {
+        ef_last_two(core, &full(blocks[0]), last)
     } else {
-        c.extend(ef_last_one(&mut core, blocks[m - 1]));
-    }
-    let te = core.te(m, blocks[m - 1]);
-    (c, te)
+        ef_last_one(core, last)
+    };
+    (c, core.te(blocks.len(), last))
 }
 
 /// EF, lines 5 to 8.

@@ -44,7 +44,7 @@ pub fn otr_d(
 }
 
 /// OTR-E and OTR-D: figure 1, lines 2 and 3; figure 3, lines 1 and 2.
-fn ta(form: Form, e: Cipher, first_mask: FirstMask, a: &[u8]) -> Block {
+pub fn ta(form: Form, e: Cipher, first_mask: FirstMask, a: &[u8]) -> Block {
     if a.is_empty() {
         return ZERO;
     }
@@ -56,7 +56,7 @@ fn ta(form: Form, e: Cipher, first_mask: FirstMask, a: &[u8]) -> Block {
 }
 
 /// EF and DF, EF-S and DF-S: line 2. With serial ADP it is doubled whatever TA is.
-fn u(form: Form, e: Cipher, t: usize, n: &[u8], ta: &Block) -> Block {
+pub fn u(form: Form, e: Cipher, t: usize, n: &[u8], ta: &Block) -> Block {
     let nonce_block = e(&format(t, n));
     match form {
         Form::Parallel => nonce_block,
@@ -65,7 +65,7 @@ fn u(form: Form, e: Cipher, t: usize, n: &[u8], ta: &Block) -> Block {
 }
 
 /// OTR-E and OTR-D, line 4: with serial ADP the tag does not take TA again.
-fn tag(form: Form, t: usize, te: &Block, ta: &Block) -> Vec<u8> {
+pub fn tag(form: Form, t: usize, te: &Block, ta: &Block) -> Vec<u8> {
     let whole = match form {
         Form::Parallel => xor(te, ta),
         Form::Serial => *te,

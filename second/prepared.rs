@@ -20,7 +20,7 @@ const KEYS: [usize; 11] = [0, 1, 15, 16, 17, 23, 24, 25, 31, 32, 33];
 const ROUNDS: [usize; 12] = [0, 9, 10, 11, 12, 13, 14, 15, 266, 268, 270, 65_535];
 
 pub fn command(arguments: &[String]) -> Result<String, Failure> {
-    write_seeded("prepared", arguments, fixed, random_prepared)
+    write_seeded("prepared", arguments, fixed, |draw| [random_prepared(draw)])
 }
 
 pub fn fixed() -> Vec<Exchange> {

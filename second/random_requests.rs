@@ -86,7 +86,7 @@ fn opening_of_other_bytes(draw: &mut Generator, sealing: Request) -> Request {
     }
 }
 
-fn mishap(draw: &mut Generator, request: &mut Request) {
+pub fn mishap(draw: &mut Generator, request: &mut Request) {
     match draw.below(38) {
         // Seldom, since such a line is long.
         0 => {

@@ -6,7 +6,7 @@ use crate::key::Key;
 use crate::record::Record;
 
 /// What the output buffer holds everywhere before the call.
-const FILL: u8 = 0xa5;
+pub const FILL: u8 = 0xa5;
 
 #[derive(Clone, Copy, PartialEq)]
 pub enum Kind {
@@ -89,17 +89,5 @@ impl Request {
         let strings = [&self.nonce, &self.data, &self.body];
         let fields = strings.map(|bytes| hex::field(bytes)).join(" ");
         format!("{name}{with} {form} {key} {fields} {t} {room}\n")
-    }
-
-    /// `NUMBER LENGTH RUNS OUTPUT` and the end of the line.
-    pub fn answer_line(&self) -> String {
-        let (answer, output) = self.call();
-        format!(
-            "{} {} {} {}\n",
-            answer.number,
-            answer.length,
-            answer.runs,
-            hex::field(&output)
-        )
     }
 }

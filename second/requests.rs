@@ -1,5 +1,5 @@
-//! The command `requests`, and what it shares with `prepared`: the file of requests and the
-//! file of answers.
+//! The command `requests`, and what it shares with `prepared` and `parts`: the file of
+//! requests and the file of answers.
 
 use crate::exchange::Exchange;
 use crate::failure::{bad_input, Failure};
@@ -13,16 +13,16 @@ const COUNT_MAX: u64 = 100_000;
 
 pub fn command(arguments: &[String]) -> Result<String, Failure> {
     let fixed = || seam_requests().iter().map(Exchange::of_call).collect();
-    let random = |draw: &mut Generator| Exchange::of_call(&random_request(draw));
+    let random = |draw: &mut Generator| [Exchange::of_call(&random_request(draw))];
     write_seeded("requests", arguments, fixed, random)
 }
 
-/// `SEED COUNT FILE_REQUESTS FILE_ANSWERS`: the fixed ones, then COUNT random ones.
-pub fn write_seeded(
+/// `SEED COUNT FILE_REQUESTS FILE_ANSWERS`: the fixed ones, then COUNT times random ones.
+pub fn write_seeded<R: IntoIterator<Item = Exchange>>(
     command: &str,
     arguments: &[String],
     fixed: fn() -> Vec<Exchange>,
-    random: fn(&mut Generator) -> Exchange,
+    random: fn(&mut Generator) -> R,
 ) -> Result<String, Failure> {
     let bad = |what: String| bad_input(format!("{command}: {what}"));
     let [seed, count, file_requests, file_answers] = arguments else {
@@ -35,7 +35,7 @@ pub fn write_seeded(
         return Err(bad(format!("COUNT is over {COUNT_MAX}")));
     }
     let mut exchanges = fixed();
-    exchanges.extend((0..count).map(|_| random(draw)));
+    exchanges.extend((0..count).flat_map(|_| random(draw)));
     let written = format!("{command} {}\n", exchanges.len());
     files::write_exchanges(exchanges.into_iter(), file_requests, file_answers)?;
     Ok(written)

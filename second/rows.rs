@@ -26,23 +26,23 @@ impl Row {
 
     /// `MESSAGELEN DATALEN K T RUNS HEX` and the end of the line.
     pub fn lengths_and_sealed(&self, e: Cipher, first_mask: FirstMask) -> String {
-        let runs = Cell::new(0);
-        let counted = |b: &Block| {
-            runs.set(runs.get() + 1);
-            e(b)
-        };
         let (n, a) = (rules::nonce(self.k), rules::data(self.data));
         let m = rules::message(self.message);
-        let (c, tag) = otr_e(self.form, &counted, first_mask, self.t, &n, &a, &m);
+        let ((c, tag), runs) = counted(e, |e| otr_e(self.form, e, first_mask, self.t, &n, &a, &m));
         let sealed = hex::encode(&[c, tag].concat());
         format!(
             "{} {} {} {} {} {}\n",
-            self.message,
-            self.data,
-            self.k,
-            self.t,
-            runs.get(),
-            sealed
+            self.message, self.data, self.k, self.t, runs, sealed
         )
     }
+}
+
+/// What the call gives with E, and how many times E ran in it.
+pub fn counted<T>(e: Cipher, call: impl FnOnce(Cipher) -> T) -> (T, usize) {
+    let runs = Cell::new(0);
+    let given = call(&|b: &Block| {
+        runs.set(runs.get() + 1);
+        e(b)
+    });
+    (given, runs.get())
 }

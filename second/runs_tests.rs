@@ -6,6 +6,7 @@ use std::cell::RefCell;
 use crate::block::{double, pad, times_3_squared, xor, Block};
 use crate::call::Answer;
 use crate::data_pass::FirstMask;
+use crate::exchange::Exchange;
 use crate::form::Form;
 use crate::generator::Generator;
 use crate::key::Key;
@@ -205,9 +206,9 @@ fn sealed_bytes_shorter_than_the_tag_report_0() {
 
 #[test]
 fn the_answer_line_has_the_runs_third() {
-    let line = sealing(0, 16, 7, 16).answer_line();
+    let line = Exchange::of_call(&sealing(0, 16, 7, 16)).answer;
     assert!(line.starts_with("0 32 5 "));
     assert_eq!(line.split_whitespace().count(), 4);
-    let refused = sealing(2, 16, 7, 16).answer_line();
+    let refused = Exchange::of_call(&sealing(2, 16, 7, 16)).answer;
     assert!(refused.starts_with("8 0 0 a5a5"));
 }

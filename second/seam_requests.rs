@@ -146,14 +146,25 @@ pub fn two_faults_in(
     kind: Kind,
     sealing: impl Fn(&mut Generator) -> Request,
 ) -> Vec<Request> {
+    two_faults_of(draw, &FAULTS, |draw| {
+        let sealing = sealing(draw);
+        match (kind, sealing.opening()) {
+            (Kind::Open, Some(opening)) => opening,
+            _ => sealing,
+        }
+    })
+}
+
+/// The same of these faults alone, in requests that are drawn by `sound`.
+pub fn two_faults_of(
+    draw: &mut Generator,
+    faults: &[u8],
+    sound: impl Fn(&mut Generator) -> Request,
+) -> Vec<Request> {
     let mut list = Vec::new();
-    for (place, &first) in FAULTS.iter().enumerate() {
-        for &second in &FAULTS[place..] {
-            let sealing = sealing(draw);
-            let mut request = match (kind, sealing.opening()) {
-                (Kind::Open, Some(opening)) => opening,
-                _ => sealing,
-            };
+    for (place, &first) in faults.iter().enumerate() {
+        for &second in &faults[place..] {
+            let mut request = sound(draw);
             add_fault(draw, &mut request, first);
             add_fault(draw, &mut request, second);
             list.push(request);

@@ -2,6 +2,7 @@
 //! must print.
 
 use crate::call::DATA_MAX;
+use crate::console_sealer::ConsoleSealer;
 use crate::exchange::Exchange;
 use crate::failure::Failure;
 use crate::files;
@@ -30,6 +31,7 @@ pub fn command(file_requests: &str, file_answers: &str) -> Result<String, Failur
     );
     serial(&mut tour, &sealing);
     prepared(&mut tour, &sealing);
+    parts(&mut tour, &sealing);
     refusals(&mut tour, &sealing, &opening);
     bad_lines(&mut tour);
     files::write(file_requests, &tour.requests)?;
@@ -118,6 +120,65 @@ fn prepared(tour: &mut Tour, sealing: &Request) {
     );
 }
 
+/// Wish 3 of 02: 20 bytes, 20 more and 30 more.
+fn parts(tour: &mut Tour, sealing: &Request) {
+    let body = b"three steps west, two steps north, then hold until the next list comes";
+    let (first, others) = body.split_at(20);
+    let (second, third) = others.split_at(20);
+    let sealing = Request {
+        body: body.to_vec(),
+        room: body.len() + sealing.t,
+        ..sealing.clone()
+    };
+    let refused = Request {
+        key: Key::Raw(rules::key(17)),
+        ..sealing.clone()
+    };
+    let mut console = ConsoleSealer::default();
+    for (words, exchange) in [
+        ("9: fed before any beginning.", console.feed(first, 4)),
+        (
+            "0: a sealer begun. The cipher ran 3 times: for the nonce block and for the data.",
+            console.begin(&sealing),
+        ),
+        (
+            "0: 20 bytes fed. Nothing comes out yet, and the cipher does not run.",
+            console.feed(first, 4),
+        ),
+        (
+            "0: 20 more, 40 in all. The first 32 come out, for 2 runs.",
+            console.feed(second, 36),
+        ),
+        (
+            "6: 30 more, with room for one byte too few.",
+            console.feed(third, 31),
+        ),
+        (
+            "0: the same with room enough; the sealer had stayed as it was.",
+            console.feed(third, 32),
+        ),
+        ("0: a part of no bytes.", console.feed(&[], 0)),
+        ("6: ended, with room for one byte too few.", console.end(21)),
+        (
+            "0: ended. The 6 bytes that were left and 16 of tag, for 2 runs.",
+            console.end(26),
+        ),
+        (
+            "0: the outputs of these calls joined are what one call seals, and their runs, 3 and 2 and 2 and 2, add up to its 9.",
+            Exchange::of_call(&sealing),
+        ),
+        ("9: fed after the end.", console.feed(first, 4)),
+        ("9: ended after the end.", console.end(26)),
+        (
+            "1: begun with a key of 17 bytes. That sealer counts as ended.",
+            console.begin(&refused),
+        ),
+        ("9: so it cannot be fed.", console.feed(first, 4)),
+    ] {
+        tour.exchange(words, &exchange);
+    }
+}
+
 fn refusals(tour: &mut Tour, sealing: &Request, opening: &Request) {
     tour.changed(
         "8: a form that is neither parallel (0) nor serial (1).",
@@ -165,6 +226,12 @@ fn bad_lines(tour: &mut Tour) {
     tour.bad("A form of six digits.", "seal 000000 00 01 02 03 16 4");
     tour.bad("Round keys of 239 bytes.", &under_zeros(239, 16));
     tour.bad("A first mask of 15 bytes.", &under_zeros(240, 15));
+    tour.bad("An end that names no room.", "end");
+    tour.bad("A part that names no room.", "feed 00");
+    tour.bad(
+        "A beginning with a field too many.",
+        "begin 0 00 01 02 16 4",
+    );
 }
 
 /// A sealing under a record of zeros, with so many bytes of round keys and of first mask.

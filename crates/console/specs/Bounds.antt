@@ -6,12 +6,18 @@ use Rattle.console.specs.declared.fields.Byte.the-variants.{Value, Bad a
 use Rattle.console.specs.declared.fields.Field.{Field}
 use Rattle.console.specs.declared.fields.Field.the-variants.{Bytes, Number, Bad as NoField}
 use Rattle.console.specs.declared.fields.Part.{Part}
+use Rattle.console.specs.declared.fields.Two.{Two}
+use Rattle.console.specs.declared.fields.Two.the-variants.{Bytes as BothBytes, Bad as NoTwo}
+use Rattle.console.specs.declared.request.Beginning.{Beginning}
+use Rattle.console.specs.declared.request.Feeding.{Feeding}
 use Rattle.console.specs.declared.request.Key.{Key}
 use Rattle.console.specs.declared.request.Key.the-variants.{Raw, Prepared}
 use Rattle.console.specs.declared.request.Line.{Line}
-use Rattle.console.specs.declared.request.Line.the-variants.{Request as Asked, Prepare, PassedOver, Bad as BadLine}
+use Rattle.console.specs.declared.request.Line.the-variants.{Request as Asked, Prepare, Begin, Feed, End, PassedOver, Bad as BadLine}
 use Rattle.console.specs.declared.request.Record.{Record}
 use Rattle.console.specs.declared.request.Request.{Request}
+use Rattle.console.specs.declared.request.Start.{Start}
+use Rattle.console.specs.declared.request.Start.the-variants.{Under, Bad as NoStart}
 use Rattle.console.specs.declared.request.Strings.{Strings}
 
 -- a byte that was read is below n
@@ -28,6 +34,16 @@ abbrev pub Read : ℕ → Field → Type 0
 Read n (Bytes p next) = Inside n p
 Read n (Number m next) = m ≤ 65535
 Read n NoField = Unit
+
+-- two fields of bytes, both of which lie in a line of n bytes
+abbrev pub Both : ℕ → Two → Type 0
+Both n (BothBytes p q next) = Inside n p × Inside n q
+Both n NoTwo = Unit
+
+-- a raw key that was read lies in a line of n bytes
+abbrev pub Started : ℕ → Start → Type 0
+Started n (Under form p next) = Inside n p
+Started n NoStart = Unit
 
 -- a prepared key lies in a line of n bytes, with 240 bytes of round keys and 16 of E(zero)
 pub record Recorded (n : ℕ) (r : Record) : Type 0 where
@@ -52,10 +68,23 @@ pub record Within (n : ℕ) (s : Strings) : Type 0 where
 abbrev pub Sound : ℕ → Request → Type 0
 Sound n r = Within n (r .strings) × (r .room ≤ 20480)
 
+-- the strings of a request to begin lie in its line, of n bytes
+pub record Begun (n : ℕ) (b : Beginning) : Type 0 where
+  pub key : Inside n (b .key)
+  pub nonce : Inside n (b .nonce)
+  pub «data» : Inside n (b .«data»)
+
+-- the part that a request feeds lies in its line, of n bytes, and its output buffer is no larger than one may be
+abbrev pub Fed : ℕ → Feeding → Type 0
+Fed n f = Inside n (f .part) × (f .room ≤ 20480)
+
 -- a line of n bytes is a sound request, or none
 abbrev pub Good : ℕ → Line → Type 0
 Good n (Asked r) = Sound n r
 Good n (Prepare p) = Inside n p
+Good n (Begin b) = Begun n b
+Good n (Feed f) = Fed n f
+Good n (End room) = room ≤ 20480
 Good n PassedOver = Unit
 Good n BadLine = Unit
 

@@ -1,15 +1,26 @@
 // Carrying a request out.
 ghost use mathlib.Core.Path.{_≡_};
+ghost use Prim.Native.Nat.{_+_, _*_, _≤_};
 ghost use lib.ListN.{length};
-ghost use Rattle.console.specs.Bounds.{Inside, Recorded, Sound, Enough};
+ghost use Rattle.console.specs.Bounds.{Inside, Recorded, Sound, Begun, Fed, Enough};
 use crate::answer;
 use crate::fields::Part;
+use crate::request::Beginning;
+use crate::request::Feeding;
 use crate::request::Key;
 use crate::request::Record;
 use crate::request::Request;
+use sealer::Sealer;
+use sealer::Step;
 
 // What every byte of an output buffer is before the call, so that the answer shows which bytes the call left alone.
 const UNTOUCHED: u8 = 0xa5;
+
+// Whether a line's answer could be written, and the sealer as the line left it.
+pub struct Replied {
+    pub written: bool,
+    pub sealer: Sealer,
+}
 
 pub fn prepare(line: &[u8], key: Part) -> link::Preparation
     requires { ⌜ Inside (length (now line)) key ⌝ }
@@ -27,6 +38,58 @@ pub fn carry_out(line: &[u8], request: Request, output: &mut [u8], text: &mut [u
     fill(buffer);
     let answer = call(line, request, buffer);
     answer::write_answer(text, answer, buffer)
+}
+
+// Begins a sealing, whose sealer takes the place of the one before it.
+pub fn begin(line: &[u8], request: Beginning, text: &mut [u8]) -> Replied
+    requires { ⌜ Begun (length (now line)) request ⌝ }
+    requires { ⌜ 65 ≤ length (now text) ⌝ }
+{
+    let key = bytes_of(line, request.key);
+    let nonce = bytes_of(line, request.nonce);
+    let data = bytes_of(line, request.data);
+    let step = sealer::begin(request.form, key, nonce, data, request.tag);
+    write_step(text, step, b"")
+}
+
+// Hands the sealer the next part of its message.
+pub fn feed(
+    line: &[u8],
+    request: Feeding,
+    sealer: Sealer,
+    output: &mut [u8],
+    text: &mut [u8],
+) -> Replied
+    requires { ⌜ Fed (length (now line)) request ⌝ }
+    requires { ⌜ Enough (length (now output)) (length (now text)) ⌝ }
+{
+    let part = bytes_of(line, request.part);
+    let room = request.room;
+    let buffer = &mut output[0..room];
+    fill(buffer);
+    let step = sealer.feed(part, buffer);
+    write_step(text, step, buffer)
+}
+
+// Ends the sealing.
+pub fn end(room: usize, sealer: Sealer, output: &mut [u8], text: &mut [u8]) -> Replied
+    requires { ⌜ room ≤ 20480 ⌝ }
+    requires { ⌜ Enough (length (now output)) (length (now text)) ⌝ }
+{
+    let buffer = &mut output[0..room];
+    fill(buffer);
+    let step = sealer.end(buffer);
+    write_step(text, step, buffer)
+}
+
+// Writes a step's answer, and hands its sealer over.
+fn write_step(text: &mut [u8], step: Step, output: &[u8]) -> Replied
+    requires { ⌜ 2 * length (now output) + 65 ≤ length (now text) ⌝ }
+{
+    let answer = step.answer;
+    let sealer = step.sealer;
+    let written = answer::write_answer(text, answer, output);
+    Replied { written, sealer }
 }
 
 fn fill(buffer: &mut [u8]) {

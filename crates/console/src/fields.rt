@@ -1,8 +1,8 @@
 // The fields of a request's line.
-ghost use Prim.Native.Nat.{_+_, _≤_};
+ghost use Prim.Native.Nat.{_+_, _-_, _≤_};
 ghost use lib.ListN.{length};
 ghost use Rattle.digits.specs.Bounds.{AtMost};
-ghost use Rattle.console.specs.Bounds.{Below, Read};
+ghost use Rattle.console.specs.Bounds.{Below, Read, Both};
 use digits::Parsed;
 
 // So many bytes of a line, from an index on.
@@ -15,6 +15,12 @@ pub struct Part {
 pub enum Field {
     Bytes(Part, usize),
     Number(usize, usize),
+    Bad,
+}
+
+// The same of two fields of bytes, one behind the other.
+pub enum Two {
+    Bytes(Part, Part, usize),
     Bad,
 }
 
@@ -37,6 +43,19 @@ pub fn bytes(line: &mut [u8], from: usize) -> Field
     }
 }
 
+// The field of bytes that begins at `from`, and the one behind it.
+pub fn pair(line: &mut [u8], from: usize) -> Two
+    ensures { λ r. ⌜ Both (length (now (line .entry))) r ⌝ }
+{
+    let Field::Bytes(first, next) = bytes(line, from) else {
+        return Two::Bad;
+    };
+    let Field::Bytes(second, next) = bytes(line, next) else {
+        return Two::Bad;
+    };
+    Two::Bytes(first, second, next)
+}
+
 // The field of a number that begins at `from`.
 pub fn number(line: &[u8], from: usize) -> Field
     ensures { λ r. ⌜ Read (length (now (line .entry))) r ⌝ }
@@ -54,11 +73,18 @@ pub fn number(line: &[u8], from: usize) -> Field
 // Where the field that begins at `from` ends: at the next space or the line's end. One that would begin behind the line's end is
 // missing, and ends where it begins.
 pub fn end_of(line: &[u8], from: usize) -> usize
-    ensures { λ r. ⌜ (from ≤ r) × (r ≤ from + length (now (line .entry))) ⌝ }
+    ensures { λ r. ⌜ (from ≤ r) × (r ≤ from + (length (now (line .entry)) - from)) ⌝ }
+{
+    find(line, from, b' ')
+}
+
+// Where the next `mark` stands, at `from` or behind it; where there is none, the end, or `from` if that is behind the end.
+pub fn find(bytes: &[u8], from: usize, mark: u8) -> usize
+    ensures { λ r. ⌜ (from ≤ r) × (r ≤ from + (length (now (bytes .entry)) - from)) ⌝ }
 {
     let mut at = from;
-    while at < line.len() {
-        if line[at] == b' ' {
+    while at < bytes.len() {
+        if bytes[at] == mark {
             return at;
         }
         at += 1;

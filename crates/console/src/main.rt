@@ -5,6 +5,9 @@
 //     prepare KEY
 //     seal-with FORM ROUNDS WORDS ZERO NONCE DATA MESSAGE TAG ROOM
 //     open-with FORM ROUNDS WORDS ZERO NONCE DATA SEALED TAG ROOM
+//     begin FORM KEY NONCE DATA TAG
+//     feed PART ROOM
+//     end ROOM
 //
 // One space stands between two fields. FORM, ROUNDS, TAG and ROOM are decimal, up to 65535, and ROOM up to 20480; form 0 is the
 // parallel one, 1 the serial one. The other fields are hexadecimal, two digits of either case a byte, or `-` for no bytes. ROUNDS, WORDS
@@ -14,6 +17,10 @@
 // `NUMBER LENGTH RUNS OUTPUT`: RUNS says how many times the cipher ran, and OUTPUT is the whole buffer after the call, in hexadecimal.
 // The answer to `prepare` is `NUMBER RUNS ROUNDS WORDS ZERO`.
 //
+// The last three requests seal a message that comes in parts. The console keeps one sealer from line to line, which counts as ended
+// before the first `begin`: each `begin` replaces it by the one that it hands back, also where it is refused, and `feed` and `end` go to
+// it. No other line changes it. The three are answered as a sealing is; `begin` has no output buffer, and its OUTPUT is `-`.
+//
 // A line has up to 65000 bytes, and ends at LF, CR LF or the input's end. One that is empty or begins with `#` is passed over. Any
 // other line that is no request, and any longer line, is answered by `bad line N`, where N counts all lines from 1.
 mod answer;
@@ -21,13 +28,16 @@ mod call;
 mod fields;
 mod request;
 
+ghost use mathlib.Core.Path.{_≡_};
 ghost use Prim.Native.Nat.{_≤_};
 ghost use lib.ListN.{length};
 ghost use Rattle.console.specs.Bounds.{Enough};
+use call::Replied;
 use libc::STDIN_FILENO;
 use request::Line;
+use sealer::Sealer;
 
-// How far the input was read.
+// How far the input was read, and what is kept from line to line.
 struct Reading {
     // The number of the line that is being read, from 1.
     number: u64,
@@ -35,6 +45,8 @@ struct Reading {
     held: usize,
     // Whether to read on: not after the input's end, nor after an answer that could not be written.
     more: bool,
+    // What the requests `feed` and `end` go to.
+    sealer: Sealer,
 }
 
 fn main() {
@@ -54,6 +66,7 @@ fn converse(chunk: &mut [u8], line: &mut [u8], output: &mut [u8], text: &mut [u8
         number: 1,
         held: 0,
         more: true,
+        sealer: sealer::ended(),
     };
     let mut turns = u64::MAX;
     while turns > 0 && reading.more {
@@ -81,16 +94,20 @@ fn read_chunk(
         return take_chunk(&chunk[0..count], before, line, output, text);
     }
     let held = before.held;
+    let sealer = before.sealer;
     if held > 0 {
-        reply(&mut line[0..held], before.number, output, text);
+        reply(&mut line[0..held], before.number, sealer, output, text);
     }
     Reading {
         number: before.number,
         held: 0,
         more: false,
+        sealer,
     }
 }
 
+// Answers the lines that end in the chunk, and holds what is left of it. A reading is handed on once a line, and not once a byte: it has
+// the sealer in it, which would be copied each time.
 fn take_chunk(
     chunk: &[u8],
     before: Reading,
@@ -103,45 +120,54 @@ fn take_chunk(
     ensures { λ r. ⌜ r .held ≤ length (now (line .entry)) ⌝ }
 {
     let mut reading = before;
-    let mut i = 0;
-    while i < chunk.len() && reading.more {
-        reading = take_byte(chunk[i], reading, line, output, text);
-        i += 1;
+    let mut at = 0;
+    let mut end = fields::find(chunk, at, b'\n');
+    while end < chunk.len() && reading.more {
+        reading = end_line(reading, line, &chunk[at..end], output, text);
+        at = end + 1;
+        end = fields::find(chunk, at, b'\n');
     }
+    let held = hold(line, reading.held, &chunk[at..end]);
+    reading.held = held;
     reading
 }
 
-// A line that fills its buffer is longer than a line may be, so that the rest of it need not be held.
-fn take_byte(
-    byte: u8,
+// Puts more of a line behind what is held of it, and answers how much is held then. A line that fills its buffer is longer than a line
+// may be, so that the rest of it need not be held.
+fn hold(line: &mut [u8], held: usize, bytes: &[u8]) -> usize
+    requires { ⌜ held ≤ length (now line) ⌝ }
+    ensures { λ r. ⌜ r ≤ length (now (line .entry)) ⌝ }
+{
+    let left = line.len() - held;
+    if bytes.len() < left {
+        return answer::put(line, held, bytes);
+    }
+    answer::put(line, held, &bytes[0..left])
+}
+
+// Answers the line whose last bytes, up to its LF, are `rest`.
+fn end_line(
     before: Reading,
     line: &mut [u8],
+    rest: &[u8],
     output: &mut [u8],
     text: &mut [u8],
 ) -> Reading
     requires { ⌜ before .held ≤ length (now line) ⌝ }
     requires { ⌜ Enough (length (now output)) (length (now text)) ⌝ }
-    ensures { λ r. ⌜ r .held ≤ length (now (line .entry)) ⌝ }
+    ensures { λ r. ⌜ r .held ≡ 0 ⌝ }
 {
-    let held = before.held;
-    if byte == b'\n' {
-        let end = without_cr(line, held);
-        let written = reply(&mut line[0..end], before.number, output, text);
-        return Reading {
-            // No input has so many lines that this wraps.
-            number: std::num::wrapping_add_u64(before.number, 1),
-            held: 0,
-            more: written,
-        };
-    }
-    if held == line.len() {
-        return before;
-    }
-    line[held] = byte;
+    let held = hold(line, before.held, rest);
+    let end = without_cr(line, held);
+    let sealer = before.sealer;
+    let replied = reply(&mut line[0..end], before.number, sealer, output, text);
+    let sealer = replied.sealer;
     Reading {
-        number: before.number,
-        held: held + 1,
-        more: true,
+        // No input has so many lines that this wraps.
+        number: std::num::wrapping_add_u64(before.number, 1),
+        held: 0,
+        more: replied.written,
+        sealer,
     }
 }
 
@@ -156,14 +182,24 @@ fn without_cr(line: &[u8], held: usize) -> usize
     held
 }
 
-// Answers a whole line, and says whether the answer could be written.
-fn reply(line: &mut [u8], number: u64, output: &mut [u8], text: &mut [u8]) -> bool
+// Answers a whole line.
+fn reply(
+    line: &mut [u8],
+    number: u64,
+    sealer: Sealer,
+    output: &mut [u8],
+    text: &mut [u8],
+) -> Replied
     requires { ⌜ Enough (length (now output)) (length (now text)) ⌝ }
 {
-    match request::parse(line) {
+    let written = match request::parse(line) {
         Line::PassedOver => true,
         Line::Bad => answer::write_bad_line(text, number),
         Line::Prepare(key) => answer::write_preparation(text, call::prepare(line, key)),
         Line::Request(request) => call::carry_out(line, request, output, text),
-    }
+        Line::Begin(request) => return call::begin(line, request, text),
+        Line::Feed(request) => return call::feed(line, request, sealer, output, text),
+        Line::End(room) => return call::end(room, sealer, output, text),
+    };
+    Replied { written, sealer }
 }

@@ -1,9 +1,12 @@
 // What a line asks for.
 ghost use lib.ListN.{length};
-ghost use Rattle.console.specs.Bounds.{Held, Within, Good};
+ghost use Rattle.digits.specs.Bounds.{AtMost};
+ghost use Rattle.console.specs.Bounds.{Held, Within, Started, Good};
 use crate::fields;
 use crate::fields::Field;
 use crate::fields::Part;
+use crate::fields::Two;
+use digits::Parsed;
 
 // The most bytes of a line, without its line end.
 const MOST_LINE: usize = 65000;
@@ -47,10 +50,35 @@ pub struct Request {
     pub room: usize,
 }
 
+// A request to begin a sealing whose message comes in parts.
+pub struct Beginning {
+    pub form: usize,
+    pub key: Part,
+    pub nonce: Part,
+    pub data: Part,
+    pub tag: usize,
+}
+
+// A request to feed the sealer a part of its message.
+pub struct Feeding {
+    pub part: Part,
+    pub room: usize,
+}
+
+// FORM and KEY, with which a request under a raw key starts, and where the next field begins.
+enum Start {
+    Under(usize, Part, usize),
+    Bad,
+}
+
 pub enum Line {
     Request(Request),
     // A request to prepare a key.
     Prepare(Part),
+    Begin(Beginning),
+    Feed(Feeding),
+    // A request to end the sealing, with ROOM.
+    End(usize),
     PassedOver,
     Bad,
 }
@@ -79,8 +107,24 @@ pub fn parse(line: &mut [u8]) -> Line
     if begins(line, b"open-with ") {
         return parse_prepared(line, next, true);
     }
+    parse_rest(line, next)
+}
+
+// What a line is that asks neither to seal nor to open a whole message. Its first field begins at `from`.
+fn parse_rest(line: &mut [u8], from: usize) -> Line
+    ensures { λ r. ⌜ Good (length (now (line .exit))) r ⌝ }
+{
     if begins(line, b"prepare ") {
-        return parse_prepare(line, next);
+        return parse_prepare(line, from);
+    }
+    if begins(line, b"begin ") {
+        return parse_begin(line, from);
+    }
+    if begins(line, b"feed ") {
+        return parse_feed(line, from);
+    }
+    if begins(line, b"end ") {
+        return parse_end(line, from);
     }
     Line::Bad
 }
@@ -116,13 +160,48 @@ fn parse_prepare(line: &mut [u8], from: usize) -> Line
 fn parse_raw(line: &mut [u8], from: usize, opens: bool) -> Line
     ensures { λ r. ⌜ Good (length (now (line .exit))) r ⌝ }
 {
-    let Field::Number(form, next) = fields::number(line, from) else {
-        return Line::Bad;
-    };
-    let Field::Bytes(key, next) = fields::bytes(line, next) else {
+    let Start::Under(form, key, next) = parse_start(line, from) else {
         return Line::Bad;
     };
     parse_strings(line, next, opens, form, Key::Raw(key))
+}
+
+// The fields of a request to begin a sealing.
+fn parse_begin(line: &mut [u8], from: usize) -> Line
+    ensures { λ r. ⌜ Good (length (now (line .exit))) r ⌝ }
+{
+    let Start::Under(form, key, next) = parse_start(line, from) else {
+        return Line::Bad;
+    };
+    let Two::Bytes(nonce, data, next) = fields::pair(line, next) else {
+        return Line::Bad;
+    };
+    let Field::Number(tag, next) = fields::number(line, next) else {
+        return Line::Bad;
+    };
+    if goes_on(line, next) {
+        return Line::Bad;
+    }
+    Line::Begin(Beginning {
+        form,
+        key,
+        nonce,
+        data,
+        tag,
+    })
+}
+
+// The first two fields of a request under a raw key.
+fn parse_start(line: &mut [u8], from: usize) -> Start
+    ensures { λ r. ⌜ Started (length (now (line .entry))) r ⌝ }
+{
+    let Field::Number(form, next) = fields::number(line, from) else {
+        return Start::Bad;
+    };
+    let Field::Bytes(key, next) = fields::bytes(line, next) else {
+        return Start::Bad;
+    };
+    Start::Under(form, key, next)
 }
 
 // The fields of a request under a prepared key.
@@ -135,10 +214,7 @@ fn parse_prepared(line: &mut [u8], from: usize, opens: bool) -> Line
     let Field::Number(rounds, next) = fields::number(line, next) else {
         return Line::Bad;
     };
-    let Field::Bytes(words, next) = fields::bytes(line, next) else {
-        return Line::Bad;
-    };
-    let Field::Bytes(zero, next) = fields::bytes(line, next) else {
+    let Two::Bytes(words, zero, next) = fields::pair(line, next) else {
         return Line::Bad;
     };
     if words.count != WORDS || zero.count != ZERO {
@@ -157,10 +233,7 @@ fn parse_strings(line: &mut [u8], from: usize, opens: bool, form: usize, key: Ke
     requires { ⌜ Held (length (now line)) key ⌝ }
     ensures { λ r. ⌜ Good (length (now (line .exit))) r ⌝ }
 {
-    let Field::Bytes(nonce, next) = fields::bytes(line, from) else {
-        return Line::Bad;
-    };
-    let Field::Bytes(data, next) = fields::bytes(line, next) else {
+    let Two::Bytes(nonce, data, next) = fields::pair(line, from) else {
         return Line::Bad;
     };
     let Field::Bytes(message, next) = fields::bytes(line, next) else {
@@ -183,12 +256,9 @@ fn parse_numbers(line: &[u8], from: usize, opens: bool, form: usize, strings: St
     let Field::Number(tag, next) = fields::number(line, from) else {
         return Line::Bad;
     };
-    let Field::Number(room, next) = fields::number(line, next) else {
+    let Parsed::Value(room) = parse_room(line, next) else {
         return Line::Bad;
     };
-    if goes_on(line, next) || MOST_ROOM < room {
-        return Line::Bad;
-    }
     Line::Request(Request {
         opens,
         form,
@@ -196,6 +266,42 @@ fn parse_numbers(line: &[u8], from: usize, opens: bool, form: usize, strings: St
         tag,
         room,
     })
+}
+
+// The fields of a request to feed the sealer.
+fn parse_feed(line: &mut [u8], from: usize) -> Line
+    ensures { λ r. ⌜ Good (length (now (line .exit))) r ⌝ }
+{
+    let Field::Bytes(part, next) = fields::bytes(line, from) else {
+        return Line::Bad;
+    };
+    let Parsed::Value(room) = parse_room(line, next) else {
+        return Line::Bad;
+    };
+    Line::Feed(Feeding { part, room })
+}
+
+// The one field of a request to end the sealing.
+fn parse_end(line: &[u8], from: usize) -> Line
+    ensures { λ r. ⌜ Good (length (now (line .entry))) r ⌝ }
+{
+    match parse_room(line, from) {
+        Parsed::Value(room) => Line::End(room),
+        Parsed::Bad => Line::Bad,
+    }
+}
+
+// ROOM, the last field of a request that has an output buffer, from `from` to the line's end.
+fn parse_room(line: &[u8], from: usize) -> Parsed
+    ensures { λ r. ⌜ AtMost 20480 r ⌝ }
+{
+    let Field::Number(room, next) = fields::number(line, from) else {
+        return Parsed::Bad;
+    };
+    if goes_on(line, next) || MOST_ROOM < room {
+        return Parsed::Bad;
+    }
+    Parsed::Value(room)
 }
 
 // Whether the line goes on behind its last field, where the next one would begin at `next`. Nothing may stand there, not even a space.

@@ -6,10 +6,10 @@ use Rattle.console.proofs.request.parse_raw.Tie as tie
 
 parse-strings-requires : tie.Need-parse-strings-requires
 parse-strings-requires c κs =
-    let k = c .before .before in
-    let b = k .before .before .before .before in
-    omega (arith, b .bytes .kept, rw (k .key .given .1) at (b .bytes .ensures))
+    let f = c .before .before in
+    let s = f .before .before .before .before in
+    omega (arith, s .parse-start .kept, rw (f .form .given .1) at (s .parse-start .ensures))
 
 pub parse-raw-spec : {M : Type 1} → statement M
 parse-raw-spec =
-    tie.close (tie.spec (λ c κs. search needs) (λ c. search needs) (λ c. search needs) (λ c. search needs) (λ c κs. search needs) (λ c. search needs) (λ c. search needs) (λ c. search needs) parse-strings-requires (λ c. search needs) (λ c. search needs))
+    tie.close (tie.spec (λ c κs. search needs) (λ c. search needs) (λ c. search needs) (λ c. search needs) (λ c. search needs) parse-strings-requires (λ c. search needs) (λ c. search needs))

@@ -9,20 +9,19 @@ use Rattle.console.proofs.request.parse_strings.Tie as tie
 parse-numbers-requires : tie.Need-parse-numbers-requires
 parse-numbers-requires c κs =
     let m = c .before .before in
-    let b3 = m .before .before .before .before in
-    let d = b3 .before .before .before in
-    let b2 = d .before .before .before .before in
-    let n = b2 .before .before .before in
-    let b1 = n .before .before .before .before in
-    let start = b1 .before .before .before in
-    let kept : length (start .args .line .now) ≡ length (b3 .bytes3 .last .0) = omega (arith, b1 .bytes .kept, b2 .bytes2 .kept, b3 .bytes3 .kept) in
+    let b = m .before .before .before .before in
+    let n = b .before .before .before in
+    let p = n .before .before .before .before in
+    let start = p .before .before .before in
+    let kept : length (start .args .line .now) ≡ length (b .bytes .last .0) = omega (arith, p .pair .kept, b .bytes .kept) in
+    let strings = rw (n .nonce .given .1) at (p .pair .ensures) in
     record {
       key = rw kept at (start .pre);
-      nonce = omega (arith, b1 .bytes .kept, kept, rw (n .nonce .given .1) at (b1 .bytes .ensures));
-      «data» = omega (arith, b2 .bytes2 .kept, b3 .bytes3 .kept, rw (d .«data» .given .1) at (b2 .bytes2 .ensures));
-      message = omega (arith, b3 .bytes3 .kept, rw (m .message .given .1) at (b3 .bytes3 .ensures));
+      nonce = omega (arith, kept, strings .0);
+      «data» = omega (arith, kept, strings .1);
+      message = omega (arith, b .bytes .kept, rw (m .message .given .1) at (b .bytes .ensures));
     }
 
 pub parse-strings-spec : {M : Type 1} → statement M
 parse-strings-spec =
-    tie.close (tie.spec (λ c κs. search needs) (λ c. search needs) (λ c. search needs) (λ c. search needs) (λ c κs. search needs) (λ c. search needs) (λ c. search needs) (λ c. search needs) (λ c κs. search needs) (λ c. search needs) (λ c. search needs) (λ c. search needs) parse-numbers-requires (λ c. search needs) (λ c. search needs))
+    tie.close (tie.spec (λ c κs. search needs) (λ c. search needs) (λ c. search needs) (λ c. search needs) (λ c. search needs) (λ c κs. search needs) (λ c. search needs) (λ c. search needs) (λ c. search needs) parse-numbers-requires (λ c. search needs) (λ c. search needs))
