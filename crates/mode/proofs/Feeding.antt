@@ -4,7 +4,7 @@
 use mathlib.Core.Path.{_≡_, refl, sym, ap, ap₂, fun-ext, _∙_}
 use mathlib.Core.Bool.{Bool, true, false}
 use mathlib.Core.List.{List, [], _∷_, _++_, flatten, append-assoc, append-nil}
-use Prim.Native.Nat.{ℕ, zero, suc, _+_, _-_, _*_, _≤_, _<_}
+use Prim.Native.Nat.{ℕ, zero, suc, _+_, _-_, _*_, _≤_}
 use native.Mathlib.Nat.{add-assoc, add-zero, zero-add}
 use native.Mathlib.Omega.{arith}
 use lib.Dec.{ltb}
@@ -20,7 +20,7 @@ use Rattle.mode.specs.Message.{blocks, pairsOf, even, block, rest, lastL
 use Rattle.mode.specs.Sealing.{tag, sealed, sealedInputs}
 use Rattle.mode.specs.Feeding.{from, Between, begun, due, fed, fedBytes, fedInputs, endInput, endBytes, endInputs}
 use Rattle.mode.proofs.Counts.{pairs-are, pairs-within, even-left}
-use Rattle.mode.proofs.Parts.{block-front, sum-front}
+use Rattle.mode.proofs.Front.{sum-front, pairs-front, pairsInputs-front}
 
 -- ---- counts: behind n pairs of a string that has at least as many, the rest has its own
 pub pairs-behind : (n b : ℕ) → n ≤ pairsOf b → pairsOf b ≡ n + pairsOf (b - 32 * n)
@@ -35,9 +35,8 @@ unfolding sum
 sum-most zero m = omega (arith, length-zeros 16)
 sum-most (suc n) m = omega (arith, length-xor (sum n m) (block m (32 * n + 16)), sum-most n m)
 
--- ---- lists that grow at their end, step by step
+-- ---- of a list that grows at its end, step by step, n + p steps are n, and behind them p
 module _ {A : Type 0} (f h g : ℕ → List A) (grows : (i : ℕ) → f (suc i) ≡ f i ++ g i) where
-  -- n + p steps are n, and behind them p
   grown-add : (n : ℕ) → h zero ≡ [] → ((i : ℕ) → h (suc i) ≡ h i ++ g (n + i)) → (p : ℕ) → f (n + p) ≡ f n ++ h p
   grown-add n none goes-on zero = ap f (add-zero n) ∙ sym (append-nil (f n)) ∙ ap (λ (x : List A). f n ++ x) (sym none)
   grown-add n none goes-on (suc p) =
@@ -47,12 +46,6 @@ module _ {A : Type 0} (f h g : ℕ → List A) (grows : (i : ℕ) → f (suc i) 
       ∙ ap (λ (x : List A). x ++ g (n + p)) (grown-add n none goes-on p)
       ∙ append-assoc (f n) (h p) (g (n + p))
       ∙ ap (λ (x : List A). f n ++ x) (sym (goes-on p))
-
-  -- what grows by the same steps is the same
-  grown-same : f zero ≡ h zero → (n : ℕ) → ((i : ℕ) → i < n → h (suc i) ≡ h i ++ g i) → f n ≡ h n
-  grown-same first zero alike = first
-  grown-same first (suc n) alike =
-      grows n ∙ ap (λ (x : List A). x ++ g n) (grown-same first n (λ i b. alike i (omega arith))) ∙ sym (alike n (omega arith))
 
 -- ---- the pairs: n + p of them are n, and p behind them with the masks from there on
 block-behind : (m : List ℕ) (n i j : ℕ) → i ≡ 32 * n + j → block m i ≡ block (drop (32 * n) m) j
@@ -86,28 +79,6 @@ module _ (m : List ℕ) (n : ℕ) where
     pairsInputs-add =
         grown-add (λ i. pairsInputs E k i m) (λ i. pairsInputs E (from n k) i (drop (32 * n) m)) _ (λ i. refl) n refl
         (λ i. ap (λ (x : List (List ℕ)). pairsInputs E (from n k) i (drop (32 * n) m) ++ x) (ap₂ (pairInputs E (k .left (n + i)) (k .right (n + i))) (left-block i) (right-block i)))
-
--- the pairs read the front alone
-module _ (E : List ℕ → List ℕ) (k : Masks) (a b : List ℕ) where
-  left-front : (n i : ℕ) → 32 * n ≤ length a → i < n → block (a ++ b) (32 * i) ≡ block a (32 * i)
-  left-front n i h less = block-front a b (32 * i) (omega arith)
-
-  right-front : (n i : ℕ) → 32 * n ≤ length a → i < n → block (a ++ b) (32 * i + 16) ≡ block a (32 * i + 16)
-  right-front n i h less = block-front a b (32 * i + 16) (omega arith)
-
-  pub pairs-front : (n : ℕ) → 32 * n ≤ length a → pairs E k n (a ++ b) ≡ pairs E k n a
-  unfolding pairs
-  pairs-front n h =
-      sym
-      (grown-same (λ i. pairs E k i a) (λ i. pairs E k i (a ++ b)) _ (λ i. refl) refl n
-      (λ i less. ap (λ (x : List ℕ). pairs E k i (a ++ b) ++ x) (ap₂ (pair E (k .left i) (k .right i)) (left-front n i h less) (right-front n i h less))))
-
-  pub pairsInputs-front : (n : ℕ) → 32 * n ≤ length a → pairsInputs E k n (a ++ b) ≡ pairsInputs E k n a
-  unfolding pairsInputs
-  pairsInputs-front n h =
-      sym
-      (grown-same (λ i. pairsInputs E k i a) (λ i. pairsInputs E k i (a ++ b)) _ (λ i. refl) refl n
-      (λ i less. ap (λ (x : List (List ℕ)). pairsInputs E k i (a ++ b) ++ x) (ap₂ (pairInputs E (k .left i) (k .right i)) (left-front n i h less) (right-front n i h less))))
 
 -- ---- a message behind n of its pairs
 module _ (m : List ℕ) (n : ℕ) (h : n ≤ pairsOf (length m)) where

@@ -8,6 +8,7 @@ pub mod Pairs
 pub mod Ends
 pub mod Walk
 pub mod Tag
+pub mod Front
 pub mod Parts
 pub mod Opens
 pub mod Format

@@ -1,31 +1,22 @@
 -- The message pass in the parts that code computes it in, by whether one block or two remain: the ciphertext, and TE of a message
 -- and of one that was undone. Assumes nothing.
-use mathlib.Core.Path.{_≡_, refl, ap, ap₂, subst, _∙_}
+use mathlib.Core.Path.{_≡_, ap, ap₂, subst, _∙_}
 use mathlib.Core.Bool.{Bool}
 use mathlib.Core.List.{List, _++_}
-use Prim.Native.Nat.{ℕ, zero, suc, _+_, _-_, _*_, _≤_}
+use Prim.Native.Nat.{ℕ, _+_, _-_, _*_}
 use native.Mathlib.Omega.{arith}
 use lib.Dec.{ltb}
-use lib.ListN.{length, take, drop, length-drop}
-use lib.Seq.{take-append-le, drop-append-le, drop-at}
+use lib.ListN.{length, drop}
+use lib.Seq.{drop-at}
 use Rattle.lists.specs.Xor.{xor}
 use Rattle.mode.specs.Masks.{Masks, IsCipher, AreMasks}
-use Rattle.mode.specs.Message.{pairsOf, even, block, rest, lastLength, short, sum, base, final, pairs, ending, endSum, l, r, body, checksum, te}
+use Rattle.mode.specs.Message.{pairsOf, even, rest, lastLength, short, sum, base, final, pairs, ending, endSum, l, r, body, checksum, te}
 use Rattle.mode.specs.Undoing.{swapped, unending, undoneSum, unbody}
 use Rattle.mode.proofs.Counts.{pairs-within}
 use Rattle.mode.proofs.Pairs.{swapped-masks, length-pairs}
+use Rattle.mode.proofs.Front.{sum-front}
 use Rattle.mode.proofs.Ends.{Remains, length-unending, undone-sum}
 use Rattle.mode.proofs.Walk.{remains, length-unbody}
-
--- ---- sums read the front alone
-pub block-front : (a b : List ℕ) (i : ℕ) → i + 16 ≤ length a → block (a ++ b) i ≡ block a i
-block-front a b i h =
-    ap (take 16) (drop-append-le i a b (omega arith)) ∙ take-append-le 16 (drop i a) b (omega (arith, length-drop i a))
-
-pub sum-front : (n : ℕ) (a b : List ℕ) → 32 * n ≤ length a → sum n (a ++ b) ≡ sum n a
-unfolding sum
-sum-front zero a b h = refl
-sum-front (suc n) a b h = ap₂ xor (sum-front n a b (omega arith)) (block-front a b (32 * n + 16) (omega arith))
 
 module _ (E : List ℕ → List ℕ) (k : Masks) where
   -- TE from its parts: b bytes that remain behind n pairs, the pairs' sum s, and what the end puts into the checksum

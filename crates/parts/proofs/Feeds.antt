@@ -19,8 +19,8 @@ use Rattle.mode.proofs.Pairs.{length-pairs}
 use Rattle.mode.proofs.Data.{length-doubles}
 use Rattle.mode.proofs.Third.{doubled-masks}
 use Rattle.mode.proofs.Runs.{length-pairsInputs}
-use Rattle.mode.proofs.Parts.{sum-front}
-use Rattle.mode.proofs.Feeding.{sum-add, pairs-add, pairs-front, doubles-add, from-doubled}
+use Rattle.mode.proofs.Front.{sum-front, pairs-front}
+use Rattle.mode.proofs.Feeding.{sum-add, pairs-add, doubles-add, from-doubled}
 use Rattle.parts.specs.declared.State.{State}
 use Rattle.parts.specs.State.{between, kept32, behindState, fedState}
 

@@ -18,7 +18,8 @@ use Rattle.mode.proofs.Counts.{pairs-are, pairs-within, even-is, even-left}
 use Rattle.mode.proofs.Pairs.{swapped-masks, length-pairs}
 use Rattle.mode.proofs.Ends.{Remains, length-ending, length-unending}
 use Rattle.mode.proofs.Walk.{remains}
-use Rattle.mode.proofs.Parts.{teOf, body-parts, te-parts, unbody-parts, te-undone, sum-front}
+use Rattle.mode.proofs.Front.{sum-front}
+use Rattle.mode.proofs.Parts.{teOf, body-parts, te-parts, unbody-parts, te-undone}
 use Rattle.ends.proofs.Final.{final-same}
 
 -- ---- how often the cipher runs
