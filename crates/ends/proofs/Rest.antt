@@ -1,5 +1,6 @@
 -- What remains of a string from some place on, read as a part block. Assumes nothing.
-use mathlib.Core.Path.{_≡_, sym, ap, _∙_}
+use mathlib.Core.Path.{_≡_, sym, ap, subst, _∙_}
+use mathlib.Core.Bool.{Bool}
 use mathlib.Core.List.{List, [], _∷_}
 use Prim.Native.Nat.{ℕ, _+_, _-_}
 use native.Mathlib.Omega.{arith}
@@ -30,3 +31,8 @@ module _ (m : List ℕ) (i : ℕ) where
 
   pub second-whole : take (length m - (i + 16)) (drop (i + 16) m) ≡ drop 16 (drop i m)
   second-whole = rest-whole m (i + 16) ∙ sym (drop-drop 16 i m)
+
+-- what a branch gives, said by the test u that picked it: what is written, what goes into the checksum, and the runs
+pub picked : (t u : Bool) → u ≡ t → (written summed : Bool → List ℕ) (runs : Bool → ℕ) (o b : List ℕ) (n : ℕ)
+    → (o ≡ written t) × ((b ≡ summed t) × (n ≡ runs t)) → (o ≡ written u) × ((b ≡ summed u) × (n ≡ runs u))
+picked t u is written summed runs o b n = subst (λ (v : Bool). (o ≡ written v) × ((b ≡ summed v) × (n ≡ runs v))) (sym is)

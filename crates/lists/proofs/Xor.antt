@@ -25,6 +25,9 @@ xor-assoc (x ∷ a) [] c = refl
 xor-assoc (x ∷ a) (y ∷ b) [] = refl
 xor-assoc (x ∷ a) (y ∷ b) (z ∷ c) = ap₂ _∷_ (bits-assoc x y z) (xor-assoc a b c)
 
+pub xor-swap : (a b c : List ℕ) → xor a (xor b c) ≡ xor b (xor a c)
+xor-swap a b c = sym (xor-assoc a b c) ∙ ap (λ (l : List ℕ). xor l c) (xor-comm a b) ∙ xor-assoc b a c
+
 pub length-xor : (a b : List ℕ) → length (xor a b) ≡ min (length a) (length b)
 unfolding xor
 length-xor [] b = sym (zero-min (length b))

@@ -12,7 +12,7 @@ use lib.ListN.{length, take, drop, length-append, length-drop}
 use lib.Seq.{drop-append-le, drop-drop}
 use Rattle.lists.specs.Xor.{xor}
 use Rattle.lists.specs.Zeros.{zeros}
-use Rattle.lists.proofs.Xor.{xor-assoc, length-xor}
+use Rattle.lists.proofs.Xor.{xor-assoc, xor-swap, length-xor}
 use Rattle.lists.proofs.Zeros.{length-zeros, xor-zeros}
 use Rattle.block.specs.Block.{double, tripleTwice, seven}
 use Rattle.mode.specs.Masks.{Masks, doubles, doubled}
@@ -141,6 +141,7 @@ module _ (m : List ℕ) (n : ℕ) (h : n ≤ pairsOf (length m)) where
         ∙ ap (teFrom k (even (length R)) (n + p) (rest R)) (sum-add m n p)
         ∙ ap₂ xor (final-from (ltb (lastLength (even (length R)) (length (rest R))) 16) (base (even (length R)) (k .left (n + p)) (k .right (n + p))))
         (xor-assoc (sum n m) (sum p R) (endSum E (even (length R)) (k .left (n + p)) (rest R)))
+        ∙ xor-swap (final (from n k) (short R) (base (even (length R)) (k .left (n + p)) (k .right (n + p)))) (sum n m) (checksum E (from n k) R)
 
 -- ---- what stands between two calls, once the bytes of m are fed, in whatever parts
 abbrev pub reached : Masks → List ℕ → Between

@@ -6,7 +6,7 @@ use lib.ListN.{length, take}
 use Rattle.lists.specs.Xor.{xor}
 use Rattle.lists.specs.Zeros.{zeros}
 use Rattle.mode.specs.Masks.{Masks}
-use Rattle.mode.specs.Message.{pairsOf, even, rest, short, sum, base, final, pairs, pairsInputs, l, r, body, bodyInputs, checksum}
+use Rattle.mode.specs.Message.{pairsOf, rest, sum, pairs, pairsInputs, body, bodyInputs, teInput}
 
 -- the masks from pair n on
 abbrev pub from : ℕ → Masks → Masks
@@ -50,12 +50,9 @@ module _ (E : List ℕ → List ℕ) where
   abbrev pub fedInputs : Between → List ℕ → List (List ℕ)
   fedInputs s x = pairsInputs E (s .masks) (due s x) (s .kept ++ x)
 
-  -- ---- the end: the kept bytes sealed, with the sum put into the checksum; the tag has t bytes, and a goes into it
+  -- ---- the end: the kept bytes sealed, with the sum put into what TE ciphers; the tag has t bytes, and a goes into it
   abbrev pub endInput : Between → List ℕ
-  endInput s =
-      let k = s .masks in
-      let m = s .kept in
-      xor (final k (short m) (base (even (length m)) (l E k m) (r E k m))) (xor (s .sum) (checksum E k m))
+  endInput s = xor (s .sum) (teInput E (s .masks) (s .kept))
 
   abbrev pub endBytes : List ℕ → ℕ → Between → List ℕ
   endBytes a t s = body E (s .masks) (s .kept) ++ take t (xor (E (endInput s)) a)

@@ -10,7 +10,7 @@ use Rattle.lists.specs.Lay.{lay}
 use Rattle.lists.specs.Xor.{xor}
 use Rattle.lists.specs.Zeros.{zeros}
 use Rattle.lists.proofs.Laid.{lay-lay}
-use Rattle.lists.proofs.Xor.{xor-comm}
+use Rattle.lists.proofs.Xor.{xor-comm, xor-swap}
 use Rattle.lists.proofs.Zeros.{xor-zeros}
 use Rattle.mode.specs.Masks.{Masks, IsCipher, AreMasks, doubled, third}
 use Rattle.mode.specs.Message.{pairsOf, even, lastLength, short, sum, base, final, pairs, pairsInputs, ending, endingInputs, endSum, body, bodyInputs, checksum}
@@ -63,7 +63,8 @@ module _ (E : List ℕ → List ℕ) (e : IsCipher E) (k : Masks) (a : AreMasks 
       ≡ xor (final k (ltb (lastLength two (length m)) 16) (base two (k .left 0) (k .right 0))) (xor s (endSum E two (k .left 0) m))
   unfolding short
   te-whole s =
-      ap₂ (λ (i : ℕ) (t : Bool). xor (final k (ltb (lastLength t (length (drop (32 * i) m))) 16) (base t (k .left i) (k .right i))) (xor s (checksum E k m))) none two-is
+      xor-swap s (final k (short m) (base (even (length m)) (k .left (pairsOf (length m))) (k .right (pairsOf (length m))))) (checksum E k m)
+      ∙ ap₂ (λ (i : ℕ) (t : Bool). xor (final k (ltb (lastLength t (length (drop (32 * i) m))) 16) (base t (k .left i) (k .right i))) (xor s (checksum E k m))) none two-is
       ∙ ap (λ (x : List ℕ). xor (final k (ltb (lastLength two (length m)) 16) (base two (k .left 0) (k .right 0))) (xor s x)) checksum-whole
 
   pub runs-whole : (s : List ℕ) (i j : ℕ) → i ≡ length (endingInputs E two (k .left 0) (k .right 0) m) → j ≡ 1

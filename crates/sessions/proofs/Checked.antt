@@ -76,6 +76,11 @@ outcome (stop x) p k bytes next s out r after h =
       buffer = h .1;
     })
 
+not-accepted : {c : Check} {k : ℕ} {bytes : List ℕ} {next s : Sealer} {out : List ℕ} {r : Step} {after : List ℕ}
+    → Outcome c k bytes next s out r after → (numberOf (r .answer) ≡ 0 → ⊥) → Unchanged s out r after
+not-accepted (accepted n come is laid) z = absurd (z (ap (λ (y : Step). numberOf (y .answer)) is))
+not-accepted (refused u) z = u
+
 by-ended : (b : Bool) → b ≡ false → (c : Check) (k : ℕ) (bytes : List ℕ) (next s : Sealer) (out : List ℕ) (r : Step) (after : List ℕ)
     → StepBy (unless b Ended c) k bytes next s out r after → (r ≡ record { answer = Ended; sealer = s }) × (after ≡ out)
 by-ended b over c k bytes next s out r after h = subst (λ (a : Bool). StepBy (unless a Ended c) k bytes next s out r after) over h
@@ -98,16 +103,8 @@ module _ (C : ℕ → List ℕ → List ℕ → List ℕ) (s : Sealer) where
 
   -- a call that is refused hands back the very sealer, and leaves the buffer; its length and its runs are 0
   pub refused-unchanged : (c : Call) (r : Step) (after : List ℕ) → Kept C s c r after → (numberOf (r .answer) ≡ 0 → ⊥) → Unchanged s (buffer c) r after
-  refused-unchanged (feed x out) r after h z = go (feed-outcome x out r after h)
-    where
-      go : Outcome (feedCheck (s .rounds) (s .tag) (s .fed) (length x) (length out)) (length (fedInputs E (standing s) x)) (fedBytes E (standing s) x) (fedBy s x) s out r after → Unchanged s out r after
-      go (accepted n come is laid) = absurd (z (ap (λ (y : Step). numberOf (y .answer)) is))
-      go (refused u) = u
-  refused-unchanged (end out) r after h z = go (end-outcome out r after h)
-    where
-      go : Outcome (endCheck (s .rounds) (s .tag) (s .fed) (length out)) (length (endInputs E (standing s))) (endBytes E (s .added) (s .tag) (standing s)) ended s out r after → Unchanged s out r after
-      go (accepted n come is laid) = absurd (z (ap (λ (y : Step). numberOf (y .answer)) is))
-      go (refused u) = u
+  refused-unchanged (feed x out) r after h = not-accepted (feed-outcome x out r after h)
+  refused-unchanged (end out) r after h = not-accepted (end-outcome out r after h)
 
   -- a sealer that has ended stays ended: 9, whatever the call
   pub stays-ended : goesOn (s .rounds) (s .tag) (s .fed) ≡ false → (c : Call) (r : Step) (after : List ℕ) → Kept C s c r after
