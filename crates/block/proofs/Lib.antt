@@ -1,3 +1,4 @@
 pub mod Blocks
 pub mod Doubling
 pub mod Words
+pub mod Linear
