@@ -1,6 +1,7 @@
 /*
  * Makes one call of the library so many times, and prints the last answer with the whole output,
- * which held a5 before. calls.rs is the same for plain Rust, and case.rs says what the words mean.
+ * which held a5 before. calls.rs is the same for plain Rust, which has edition 3 alone and so names
+ * none; case.rs says what the other words mean.
  */
 #include <stdio.h>
 #include <stdlib.h>
@@ -21,12 +22,12 @@ struct string {
     size_t len;
 };
 
-static size_t form;
+static size_t edition, form;
 static struct string key, nonce, data, input, output;
 
 static void usage(void)
 {
-    fprintf(stderr, "usage: calls seal|open|damaged FORM KEY_BYTES MESSAGE_BYTES CALLS\n");
+    fprintf(stderr, "usage: calls EDITION seal|open|damaged FORM KEY_BYTES MESSAGE_BYTES CALLS\n");
     exit(2);
 }
 
@@ -54,9 +55,9 @@ static void by_rule(struct string *string, size_t len)
 
 static uint32_t call(int opens)
 {
-    return (opens ? shaftladder_open : shaftladder_seal)(form, key.at, key.len, nonce.at, nonce.len,
-                                                         data.at, data.len, input.at, input.len,
-                                                         TAG_BYTES, output.at, output.len);
+    return (opens ? shaftladder_open : shaftladder_seal)(
+        edition, form, key.at, key.len, nonce.at, nonce.len, data.at, data.len, input.at, input.len,
+        TAG_BYTES, output.at, output.len);
 }
 
 /* The sealing becomes the opening of what it gives, with the first byte changed. */
@@ -70,27 +71,28 @@ static void open_what_is_sealed(uint8_t change)
 
 int main(int count, char **words)
 {
-    if (count != 6) {
+    if (count != 7) {
         usage();
     }
-    form = number(words[2]);
-    by_rule(&key, number(words[3]));
+    edition = number(words[1]);
+    form = number(words[3]);
+    by_rule(&key, number(words[4]));
     by_rule(&nonce, NONCE_BYTES);
     by_rule(&data, DATA_BYTES);
-    by_rule(&input, number(words[4]));
+    by_rule(&input, number(words[5]));
     output.len = SHAFTLADDER_SEALED_LEN(input.len, TAG_BYTES);
     memset(output.at, UNTOUCHED, output.len);
 
-    int opens = strcmp(words[1], "seal") != 0;
-    if (strcmp(words[1], "open") == 0) {
+    int opens = strcmp(words[2], "seal") != 0;
+    if (strcmp(words[2], "open") == 0) {
         open_what_is_sealed(0);
-    } else if (strcmp(words[1], "damaged") == 0) {
+    } else if (strcmp(words[2], "damaged") == 0) {
         open_what_is_sealed(1);
     } else if (opens) {
         usage();
     }
     uint32_t answer = 0;
-    for (size_t calls = number(words[5]); calls > 0; calls--) {
+    for (size_t calls = number(words[6]); calls > 0; calls--) {
         answer = call(opens);
     }
     printf("%u ", (unsigned)answer);

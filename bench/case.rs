@@ -1,5 +1,6 @@
-//! The calls that are measured: `seal|open|damaged FORM KEY_BYTES MESSAGE_BYTES`, where damaged is
-//! an opening that must be refused. The nonce has 12 bytes, the data 16 and the tag 16.
+//! The calls that are measured, in edition 3: `seal|open|damaged FORM KEY_BYTES MESSAGE_BYTES`,
+//! where damaged is an opening that must be refused. The nonce has 12 bytes, the data 16 and the
+//! tag 16.
 
 use std::hint::black_box;
 

@@ -1,6 +1,8 @@
-//! The library: the functions of shaftladder.h, with slices.
+//! The library: the functions of shaftladder.h, with slices, in the edition that plain Rust has.
 
 use crate::plain::Terms;
+
+const EDITION: usize = 3;
 
 /// The slices keep the caller's duties: each is valid for its length, and the output, which is
 /// borrowed alone, overlaps no input.
@@ -9,6 +11,7 @@ macro_rules! function {
         pub fn $name(terms: &Terms, input: &[u8], out: &mut [u8]) -> u32 {
             extern "C" {
                 fn $symbol(
+                    edition: usize,
                     form: usize,
                     key: *const u8,
                     key_len: usize,
@@ -25,6 +28,7 @@ macro_rules! function {
             }
             unsafe {
                 $symbol(
+                    EDITION,
                     terms.form,
                     terms.key.as_ptr(),
                     terms.key.len(),

@@ -7,7 +7,9 @@
 #include "pages.h"
 #include "shaftladder.h"
 
-#define ANSWERS (SHAFTLADDER_BAD_FORM + 1)
+#define ANSWERS (SHAFTLADDER_BAD_EDITION + 1)
+/* The one number below that no call from C answers. */
+#define ANSWER_IN_PARTS 9
 
 static const char *const names[PARTS] = {"key", "nonce", "associated data",
                                          "message or sealed bytes"};
@@ -44,8 +46,9 @@ static void compare_at(const struct call *call, enum place place)
     }
     uint8_t *out = pages_lend(&output, place, fill, call->after.len);
     uint32_t number = (call->opens ? shaftladder_open : shaftladder_seal)(
-        call->form, lent[KEY], parts[KEY].len, lent[NONCE], parts[NONCE].len, lent[DATA],
-        parts[DATA].len, lent[BODY], parts[BODY].len, call->tag_len, out, call->after.len);
+        call->edition, call->form, lent[KEY], parts[KEY].len, lent[NONCE], parts[NONCE].len,
+        lent[DATA], parts[DATA].len, lent[BODY], parts[BODY].len, call->tag_len, out,
+        call->after.len);
     if (number != call->number) {
         differ("answered %u, and must answer %u", (unsigned)number, (unsigned)call->number);
     }
@@ -72,6 +75,9 @@ void call_count(void)
 {
     unsigned long all = 0;
     for (int i = 0; i < ANSWERS; i++) {
+        if (i == ANSWER_IN_PARTS) {
+            continue;
+        }
         printf("answered %d: %lu\n", i, compared[i]);
         all += compared[i];
         if (compared[i] == 0) {

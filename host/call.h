@@ -21,7 +21,7 @@ enum part { KEY, NONCE, DATA, BODY, PARTS };
 
 struct call {
     int opens;
-    size_t form;
+    size_t edition, form;
     struct string parts[PARTS];
     size_t tag_len;
     uint32_t number;     /* what it must answer */
@@ -37,7 +37,7 @@ void call_compare(const struct call *call);
 
 /*
  * Prints how many calls were compared, by their answers; fails where one of the answers 0
- * to 8 never came.
+ * to 8 and 10 never came.
  */
 void call_count(void);
 

@@ -101,8 +101,8 @@ static struct string string(char **rest, uint8_t at[LONGEST])
 }
 
 /*
- * `seal FORM KEY NONCE DATA MESSAGE TAG ROOM` or `open FORM KEY NONCE DATA SEALED TAG
- * ROOM`; returns the room.
+ * `seal EDITION FORM KEY NONCE DATA MESSAGE TAG ROOM` or `open EDITION FORM KEY NONCE DATA
+ * SEALED TAG ROOM`; returns the room.
  */
 static size_t read_request(char *line, struct call *call)
 {
@@ -112,6 +112,7 @@ static size_t read_request(char *line, struct call *call)
     if (!call->opens && strcmp(kind, "seal") != 0) {
         fail("neither seal nor open");
     }
+    call->edition = decimal(&line);
     call->form = decimal(&line);
     for (int i = 0; i < PARTS; i++) {
         call->parts[i] = string(&line, bytes[i]);
@@ -132,7 +133,7 @@ static void read_answer(char *line, struct call *call, size_t room)
     decimal(&line);
     decimal(&line);
     call->after = string(&line, bytes);
-    if (line != NULL || number > SHAFTLADDER_BAD_FORM || call->after.len != room) {
+    if (line != NULL || number > SHAFTLADDER_BAD_EDITION || call->after.len != room) {
         fail("this is no answer to its request");
     }
     call->number = (uint32_t)number;

@@ -21,6 +21,14 @@ static const size_t messages[] = {
     0, 1, 15, 16, 17, 31, 32, 33, 48, SHAFTLADDER_MESSAGE_MAX - 1, SHAFTLADDER_MESSAGE_MAX};
 static const size_t datas[] = {0, 1, 15, 16, 17, SHAFTLADDER_DATA_MAX};
 
+static const struct {
+    size_t edition, form;
+} modes[] = {
+    {SHAFTLADDER_EDITION_3, SHAFTLADDER_PARALLEL},
+    {SHAFTLADDER_EDITION_3, SHAFTLADDER_SERIAL},
+    {SHAFTLADDER_EDITION_1, SHAFTLADDER_PARALLEL},
+};
+
 /*
  * Key, nonce, associated data and message are zeros: what they hold does not matter here.
  */
@@ -29,7 +37,7 @@ static uint8_t out[SHAFTLADDER_SEALED_MAX];
 
 /* The call, set before it is entered. */
 static int opens;
-static size_t form, key_len, data_len, body_len;
+static size_t edition, form, key_len, data_len, body_len;
 static const uint8_t *body;
 static uint32_t number;
 
@@ -39,7 +47,7 @@ static ucontext_t outside;
 static void enter(void)
 {
     frame = __builtin_frame_address(0);
-    number = (opens ? shaftladder_open : shaftladder_seal)(form, zeros, key_len, zeros,
+    number = (opens ? shaftladder_open : shaftladder_seal)(edition, form, zeros, key_len, zeros,
                                                            SHAFTLADDER_NONCE_MAX, zeros, data_len,
                                                            body, body_len, TAG, out, sizeof out);
 }
@@ -98,7 +106,9 @@ int main(void)
 {
     struct pages stack = pages_make(STACK);
     size_t most = 0;
-    for (form = SHAFTLADDER_PARALLEL; form <= SHAFTLADDER_SERIAL; form++) {
+    for (size_t mode = 0; mode < COUNT(modes); mode++) {
+        edition = modes[mode].edition;
+        form = modes[mode].form;
         for (key_len = SHAFTLADDER_KEY_128; key_len <= SHAFTLADDER_KEY_256; key_len += 8) {
             for (size_t i = 0; i < COUNT(datas); i++) {
                 data_len = datas[i];

@@ -3,9 +3,9 @@
  *
  * The camera box seals a list of corrections with shaftladder_seal(). The mount opens it
  * with shaftladder_open(), which accepts bytes exactly if a message seals to them with the
- * form, key, nonce, associated data and tag length of the call, and then gives that
- * message. Both are AES-OTR v3.1. Sealed bytes are the ciphertext, exactly as long as the
- * message, with the tag directly behind it.
+ * edition, form, key, nonce, associated data and tag length of the call, and then gives that
+ * message. Both are AES-OTR, in the edition that the call names. Sealed bytes are the
+ * ciphertext, exactly as long as the message, with the tag directly behind it.
  *
  * A call always returns. Where the caller keeps the duties below, its answer and every byte
  * of the output afterwards are decided by its arguments, and proved to be what this file
@@ -24,9 +24,10 @@ extern "C" {
 /*
  * ANSWERS
  *
- * The number that a call returns is its whole answer. A call checks the form, the key, the
- * nonce, the tag length, the associated data, the length and the room, in this order, and
- * the first that is wrong is the answer. Opening then looks at the tag.
+ * The number that a call returns is its whole answer. A call checks the edition, the form,
+ * the key, the nonce, the tag length, the associated data, the length and the room, in this
+ * order, and the first that is wrong is the answer. Opening then looks at the tag. There is
+ * no 9 here: it belongs to sealing in parts, which has no call from C.
  *
  * What the output holds afterwards:
  *   SHAFTLADDER_DONE     first the result; the bytes behind it are untouched.
@@ -36,20 +37,32 @@ extern "C" {
  */
 enum shaftladder_answer {
     SHAFTLADDER_DONE = 0,
-    SHAFTLADDER_BAD_KEY = 1,    /* the key does not have 16, 24 or 32 bytes */
-    SHAFTLADDER_BAD_NONCE = 2,  /* the nonce does not have 1 to 15 bytes */
-    SHAFTLADDER_BAD_TAG = 3,    /* the tag length is not 4 to 16 */
-    SHAFTLADDER_BAD_DATA = 4,   /* the associated data has over 4,096 bytes */
-    SHAFTLADDER_BAD_LENGTH = 5, /* sealing: the message has over 16,384 bytes; opening: there
-                                   are fewer sealed bytes than tag_len, or over
-                                   16,384 + tag_len */
-    SHAFTLADDER_NO_ROOM = 6,    /* the output is too short */
-    SHAFTLADDER_FORGED = 7,     /* opening alone: the tag does not match; no message seals to
-                                   these bytes */
-    SHAFTLADDER_BAD_FORM = 8    /* the form is neither of the two; checked before all others */
+    SHAFTLADDER_BAD_KEY = 1,     /* the key does not have 16, 24 or 32 bytes */
+    SHAFTLADDER_BAD_NONCE = 2,   /* the nonce does not have 1 to 15 bytes */
+    SHAFTLADDER_BAD_TAG = 3,     /* the tag length is not 4 to 16 */
+    SHAFTLADDER_BAD_DATA = 4,    /* the associated data has over 4,096 bytes */
+    SHAFTLADDER_BAD_LENGTH = 5,  /* sealing: the message has over 16,384 bytes; opening: there
+                                    are fewer sealed bytes than tag_len, or over
+                                    16,384 + tag_len */
+    SHAFTLADDER_NO_ROOM = 6,     /* the output is too short */
+    SHAFTLADDER_FORGED = 7,      /* opening alone: the tag does not match; no message seals to
+                                    these bytes */
+    SHAFTLADDER_BAD_FORM = 8,    /* the form is neither of the two, or edition 1 is named with
+                                    the serial form; checked next after the edition */
+    SHAFTLADDER_BAD_EDITION = 10 /* the edition is neither 1 nor 3; checked before all others */
 };
 
-/* How the associated data is taken in. What one form sealed is opened in that form. */
+/*
+ * Which AES-OTR. Edition 1 is AES-OTR v1, under which six seasons of night logs were sealed;
+ * edition 3 is AES-OTR v3.1. What one edition sealed is opened in that edition. New lists
+ * are sealed with edition 3.
+ */
+enum shaftladder_edition { SHAFTLADDER_EDITION_1 = 1, SHAFTLADDER_EDITION_3 = 3 };
+
+/*
+ * How the associated data is taken in. What one form sealed is opened in that form. Edition
+ * 1 has the parallel form alone.
+ */
 enum shaftladder_form { SHAFTLADDER_PARALLEL = 0, SHAFTLADDER_SERIAL = 1 };
 
 /* LIMITS, in bytes. A key has one of three lengths. */
@@ -74,8 +87,8 @@ enum shaftladder_form { SHAFTLADDER_PARALLEL = 0, SHAFTLADDER_SERIAL = 1 };
 
 /*
  * STACK that a call needs at most, in bytes, its arguments included. Measured and not
- * proved: calls at the seam lengths, in both forms and with every key length, ran on a
- * painted stack, and of the paint 6,032 bytes at most were gone (host/stack.c). glibc's
+ * proved: calls at the seam lengths, in each edition and form and with every key length, ran
+ * on a painted stack, and of the paint 6,432 bytes at most were gone (host/stack.c). glibc's
  * memcpy and memset are in it, bound beforehand: a dynamic linker that binds them at their
  * first call needs more.
  */
@@ -101,7 +114,13 @@ enum shaftladder_form { SHAFTLADDER_PARALLEL = 0, SHAFTLADDER_SERIAL = 1 };
  * - A nonce is never used twice under a key. Two messages sealed under one nonce give away
  *   what they have in common, and help others to forge. The library takes the nonce that it
  *   is handed, and keeps no record.
- * - A key is kept to one form and one tag length.
+ * - A key is kept to one edition, one form and one tag length.
+ * - With edition 1 a mount keeps to one tag length for a key, and refuses any other itself
+ *   before it opens. Edition 1 does not bind the tag length, and this is proved: what it
+ *   seals with a tag of t bytes is the ciphertext and the first t tag bytes of what it seals
+ *   with 16. So whoever accepts tags of several lengths under one key accepts, at the
+ *   shortest, any record cut down to it, and a forger needs to guess only the shortest tag,
+ *   with 4 bytes one in 2^32 a try, for a list of any length.
  * - Whether a list comes twice, or in another order than it was sealed in, is the caller's
  *   to see: no call can tell.
  */
@@ -119,7 +138,7 @@ enum shaftladder_form { SHAFTLADDER_PARALLEL = 0, SHAFTLADDER_SERIAL = 1 };
  * sealed but bound to the message: to open takes the same. out needs
  * SHAFTLADDER_SEALED_LEN(message_len, tag_len) bytes.
  */
-uint32_t shaftladder_seal(size_t form,
+uint32_t shaftladder_seal(size_t edition, size_t form,
                           const uint8_t *key, size_t key_len,
                           const uint8_t *nonce, size_t nonce_len,
                           const uint8_t *ad, size_t ad_len,
@@ -131,7 +150,7 @@ uint32_t shaftladder_seal(size_t form,
  * Opens what shaftladder_seal() gave, and gives the message. out needs
  * SHAFTLADDER_MESSAGE_LEN(sealed_len, tag_len) bytes.
  */
-uint32_t shaftladder_open(size_t form,
+uint32_t shaftladder_open(size_t edition, size_t form,
                           const uint8_t *key, size_t key_len,
                           const uint8_t *nonce, size_t nonce_len,
                           const uint8_t *ad, size_t ad_len,

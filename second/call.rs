@@ -1,12 +1,13 @@
 //! The call level: 01, "Numbers a call may carry" and "What comes back", with wish 1 of 02:
 //! each call names its form, and one that is neither parallel (0) nor serial (1) is refused
-//! with 8 before all else; with wish 5: a nonce has 1 to 15 bytes; with wish 6: an answer
-//! reports how many times the cipher ran; and with wish 9: a call takes a raw key or a record.
-//! Each call has a cipher of its own, which counts.
+//! with 8; with wish 5: a nonce has 1 to 15 bytes; with wish 6: an answer reports how many
+//! times the cipher ran; with wish 7: each call names its edition, one that is neither 1 nor 3
+//! is refused with 10 before all else, and edition 1 with the serial form with 8; and with wish
+//! 9: a call takes a raw key or a record. Each call has a cipher of its own, which counts.
 
 use crate::aes::Aes;
 use crate::data_pass::FirstMask;
-use crate::form::Form;
+use crate::edition::{Edition, Mode};
 use crate::key::Key;
 use crate::otr::{otr_d, otr_e};
 
@@ -20,7 +21,7 @@ pub struct Answer {
 }
 
 pub fn seal(
-    form: usize,
+    mode: Mode,
     key: &Key,
     nonce: &[u8],
     data: &[u8],
@@ -28,7 +29,7 @@ pub fn seal(
     t: usize,
     output: &mut [u8],
 ) -> Answer {
-    let (form, aes, mask) = match checked_to_4(form, key, nonce, data, t) {
+    let (edition, aes, mask) = match checked_to_4(mode, key, nonce, data, t) {
         Ok(checked) => checked,
         Err(number) => return refused(number),
     };
@@ -38,12 +39,12 @@ pub fn seal(
     if output.len() < message.len() + t {
         return refused(6);
     }
-    let (c, tag) = otr_e(form, &|b| aes.cipher(b), mask, t, nonce, data, message);
+    let (c, tag) = otr_e(edition, &|b| aes.cipher(b), mask, t, nonce, data, message);
     done(&[c, tag].concat(), aes.runs(), output)
 }
 
 pub fn open(
-    form: usize,
+    mode: Mode,
     key: &Key,
     nonce: &[u8],
     data: &[u8],
@@ -51,7 +52,7 @@ pub fn open(
     t: usize,
     output: &mut [u8],
 ) -> Answer {
-    let (form, aes, mask) = match checked_to_4(form, key, nonce, data, t) {
+    let (edition, aes, mask) = match checked_to_4(mode, key, nonce, data, t) {
         Ok(checked) => checked,
         Err(number) => return refused(number),
     };
@@ -63,7 +64,7 @@ pub fn open(
         return refused(6);
     }
     let (c, tag) = sealed.split_at(message_bytes);
-    match otr_d(form, &|b| aes.cipher(b), mask, nonce, data, c, tag) {
+    match otr_d(edition, &|b| aes.cipher(b), mask, nonce, data, c, tag) {
         Some(message) => done(&message, aes.runs(), output),
         None => {
             output[..message_bytes].fill(0);
@@ -75,15 +76,15 @@ pub fn open(
     }
 }
 
-/// 8, then 1 to 4: the number of the refusal, or what the passes need.
+/// 10 and 8, then 1 to 4: the number of the refusal, or what the passes need.
 pub fn checked_to_4(
-    form: usize,
+    mode: Mode,
     key: &Key,
     nonce: &[u8],
     data: &[u8],
     t: usize,
-) -> Result<(Form, Aes, FirstMask), u8> {
-    let form = Form::named(form).ok_or(8)?;
+) -> Result<(Edition, Aes, FirstMask), u8> {
+    let edition = mode.checked()?;
     let (aes, first_mask) = key.cipher().ok_or(1)?;
     if !(1..=15).contains(&nonce.len()) {
         Err(2)
@@ -92,7 +93,7 @@ pub fn checked_to_4(
     } else if data.len() > DATA_MAX {
         Err(4)
     } else {
-        Ok((form, aes, first_mask))
+        Ok((edition, aes, first_mask))
     }
 }
 

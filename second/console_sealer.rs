@@ -13,9 +13,10 @@ pub struct ConsoleSealer {
 
 impl ConsoleSealer {
     /// `begin FORM KEY NONCE DATA TAG`, as the sealing has them; its key is a raw one.
-    /// Refused or not, another sealer takes the place of the one that was there.
+    /// It names no edition. Refused or not, another sealer takes the place of the one that was
+    /// there.
     pub fn begin(&mut self, sealing: &Request) -> Exchange {
-        let (form, t) = (sealing.form, sealing.t);
+        let (form, t) = (sealing.mode.form, sealing.t);
         let (nonce, data) = (&sealing.nonce, &sealing.data);
         let key = sealing.key.raw().expect("a sealer takes a raw key");
         let (sealer, answer) = Sealer::begin(form, key, nonce, data, t);

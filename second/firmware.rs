@@ -1,5 +1,6 @@
 //! The command `firmware`: the requests of the host program, which calls the library from C.
 
+use crate::edition::{Mode, FIRST, THIRD_PARALLEL, THIRD_SERIAL};
 use crate::failure::{bad_input, Failure};
 use crate::files;
 use crate::generator::Generator;
@@ -13,30 +14,40 @@ const NONCES: [usize; 3] = [1, 12, 15];
 const TAGS: [usize; 3] = [4, 15, 16];
 const BEYOND_32_BITS: usize = 1 << 32;
 
-pub fn command(form: &str, file_requests: &str, file_answers: &str) -> Result<String, Failure> {
-    let form = match form {
-        "0" => 0,
-        "1" => 1,
-        _ => return Err(bad_input(format!("firmware: FORM is not 0 or 1: {form}"))),
+pub fn command(
+    edition: &str,
+    form: &str,
+    file_requests: &str,
+    file_answers: &str,
+) -> Result<String, Failure> {
+    let mode = match (edition, form) {
+        ("3", "0") => THIRD_PARALLEL,
+        ("3", "1") => THIRD_SERIAL,
+        ("1", "0") => FIRST,
+        _ => {
+            let what = "firmware: EDITION FORM is not 3 0, 3 1 or 1 0";
+            return Err(bad_input(format!("{what}: {edition} {form}")));
+        }
     };
-    let requests = requests(form);
+    let requests = requests(mode);
     files::write_requests(&requests, file_requests, file_answers)?;
     Ok(format!(
-        "form {form}: {} requests. Keys of {KEYS:?}, nonces of {NONCES:?}, tags of {TAGS:?}, \
-         data of {DATA:?}, messages of {MESSAGES:?}, each with each; and refusals\n",
+        "edition {edition}, form {form}: {} requests. Keys of {KEYS:?}, nonces of {NONCES:?}, \
+         tags of {TAGS:?}, data of {DATA:?}, messages of {MESSAGES:?}, each with each; and \
+         refusals\n",
         requests.len()
     ))
 }
 
-pub fn requests(form: usize) -> Vec<Request> {
+/// The refusals first: a fault in what comes before the passes is then found at once.
+pub fn requests(mode: Mode) -> Vec<Request> {
     let draw = &mut Generator::new(SEED);
-    let mut requests = Vec::new();
+    let mut requests = wide_numbers(draw, mode);
+    requests.extend(two_faults(draw, mode, Kind::Seal));
+    requests.extend(two_faults(draw, mode, Kind::Open));
     for lengths in every_seam() {
-        requests.push(sealing(draw, form, lengths));
+        requests.push(sealing(draw, mode, lengths));
     }
-    requests.extend(two_faults(draw, form, Kind::Seal));
-    requests.extend(two_faults(draw, form, Kind::Open));
-    requests.extend(wide_numbers(draw, form));
     requests
 }
 
@@ -64,15 +75,16 @@ fn vary(list: &[Lengths], choices: &[usize], set: fn(&mut Lengths, usize)) -> Ve
     varied
 }
 
-/// Forms and tag lengths that no 32 bits hold; without the bits beyond, some would be sound.
-fn wide_numbers(draw: &mut Generator, form: usize) -> Vec<Request> {
-    let sealing = sealing(draw, form, USUAL);
+/// Editions, forms and tag lengths that no 32 bits hold; without the bits beyond, some would
+/// be sound.
+fn wide_numbers(draw: &mut Generator, mode: Mode) -> Vec<Request> {
+    let sealing = sealing(draw, mode, USUAL);
     let opening = other_bytes(draw, &sealing);
     let mut list = Vec::new();
     for request in [sealing, opening] {
-        for form in [BEYOND_32_BITS + form, usize::MAX] {
+        for mode in wide_modes(mode) {
             list.push(Request {
-                form,
+                mode,
                 ..request.clone()
             });
         }
@@ -84,4 +96,15 @@ fn wide_numbers(draw: &mut Generator, form: usize) -> Vec<Request> {
         }
     }
     list
+}
+
+fn wide_modes(mode: Mode) -> [Mode; 4] {
+    let edition = |edition| Mode { edition, ..mode };
+    let form = |form| Mode { form, ..mode };
+    [
+        edition(BEYOND_32_BITS + mode.edition),
+        edition(usize::MAX),
+        form(BEYOND_32_BITS + mode.form),
+        form(usize::MAX),
+    ]
 }

@@ -1,26 +1,30 @@
-//! Shaftladder's independent second program: AES-OTR v3.1 with parallel and serial ADP,
-//! written from the paper (000) and the exact rules (01, and wishes 1, 3, 5, 6 and 9 of 02)
-//! alone. See README.md.
+//! Shaftladder's independent second program: AES-OTR v3.1 with parallel and serial ADP and v1
+//! with parallel ADP, written from the papers (000, 003) and the exact rules (01, and wishes 1,
+//! 3, 5, 6, 7 and 9 of 02) alone. See README.md.
 
 mod aes;
 mod aes_rows;
+mod bench;
 mod bits;
 mod block;
 mod call;
 mod console_sealer;
 mod data_pass;
 mod division;
+mod edition;
 mod exchange;
 mod failure;
 mod files;
 mod firmware;
+#[cfg(test)]
+mod first_tests;
 mod form;
 mod generator;
 mod hex;
 mod key;
 mod known;
+mod masks;
 mod message_pass;
-mod night;
 mod otr;
 mod otr_parts;
 mod parts;
@@ -92,11 +96,14 @@ fn run(words: &[String]) -> Result<String, Failure> {
         ("aes-rows", []) => Ok(aes_rows::command()),
         ("seams", [requests, answers]) => seams::command(requests, answers),
         ("tour", [requests, answers]) => tour::command(requests, answers),
-        ("firmware", [form, requests, answers]) => firmware::command(form, requests, answers),
+        ("firmware", [edition, form, requests, answers]) => {
+            firmware::command(edition, form, requests, answers)
+        }
         ("requests", _) => requests::command(rest),
         ("prepared", _) => prepared::command(rest),
         ("parts", _) => parts::command(rest),
-        ("night", []) => Ok(night::command()),
+        ("night", []) => Ok(bench::night()),
+        ("bench", _) => bench::sealed(rest),
         ("known", _) => known::command(rest),
         _ => Err(usage()),
     }
@@ -109,11 +116,12 @@ fn usage() -> Failure {
                 \u{20}      second aes-rows\n\
                 \u{20}      second seams FILE_REQUESTS FILE_ANSWERS\n\
                 \u{20}      second tour FILE_REQUESTS FILE_ANSWERS\n\
-                \u{20}      second firmware FORM FILE_REQUESTS FILE_ANSWERS\n\
+                \u{20}      second firmware EDITION FORM FILE_REQUESTS FILE_ANSWERS\n\
                 \u{20}      second requests SEED COUNT FILE_REQUESTS FILE_ANSWERS\n\
                 \u{20}      second prepared SEED COUNT FILE_REQUESTS FILE_ANSWERS\n\
                 \u{20}      second parts SEED COUNT FILE_REQUESTS FILE_ANSWERS\n\
                 \u{20}      second night\n\
+                \u{20}      second bench EDITION FORM KEY_BYTES MESSAGE_BYTES\n\
                 \u{20}      second known FILE...";
     bad_input(text.to_string())
 }

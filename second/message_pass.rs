@@ -1,51 +1,50 @@
-//! The message pass: EF and DF (000, figure 1), which are EF-S and DF-S (000, figure 3) too.
-//! They differ only in the generation of U (000, "Algorithms for Serial ADP"), which is given
-//! here. Lines are figure 1's; from line 3 on figure 3 has each one number higher.
+//! The message pass: EF and DF of 000, figure 1, which are EF-S and DF-S of 000, figure 3, and
+//! EF and DF of 003, figure 1, too: these differ only in the masks, which are given here.
 //!
-//! The transcript of the figures lost the underline that stands for padding (EF, lines
-//! 12, 13 and 17; DF, lines 10, 13 and 17); 01 says where it belongs.
+//! Lines are those of 000, figure 1; from line 3 on figure 3 has each one number higher. 003
+//! has lines 1 to 9 and 19 to 22 alike, lines 10 to 13 of 000 as 11 to 14, and lines 16 and 17
+//! as 17 and 18, since it sets L* first.
+//!
+//! The transcript of 000's figures lost the underline that stands for padding (EF, lines
+//! 12, 13 and 17; DF, lines 10, 13 and 17); 01 says where it belongs, and 003 has it there.
 
-use crate::block::{
-    double, full, pad, partition, times_3, times_3_squared, times_7, xor, xor_first, Block, Cipher,
-    BLOCK_BYTES, ZERO,
-};
+use crate::block::{full, pad, partition, xor, xor_first, Block, Cipher, BLOCK_BYTES, ZERO};
+use crate::masks::Masks;
 
 /// What EF and DF carry from chunk to chunk.
 pub struct Core<'a> {
     e: Cipher<'a>,
     sigma: Block,
-    l: Block,
-    l_sharp: Block,
+    masks: Masks,
 }
 
 impl<'a> Core<'a> {
-    /// Lines 1 and 2 (in figure 3, lines 1 and 3).
-    fn start(e: Cipher<'a>, u: &Block) -> Core<'a> {
+    /// Line 1, behind line 2, which gives the masks.
+    fn start(e: Cipher<'a>, masks: Masks) -> Core<'a> {
         Core {
             e,
             sigma: ZERO,
-            l: *u,
-            l_sharp: times_3(u),
+            masks,
         }
     }
 
     /// As the message's first blocks, full and an even number, leave it in EF: lines 7 and 8
     /// for each two of them. Neither line has an E, so none runs.
-    pub fn behind(e: Cipher<'a>, u: &Block, blocks: &[&[u8]]) -> Core<'a> {
-        let mut core = Core::start(e, u);
+    pub fn behind(e: Cipher<'a>, masks: Masks, blocks: &[&[u8]]) -> Core<'a> {
+        let mut core = Core::start(e, masks);
         for pair in blocks.chunks(2) {
             core.add_to_sigma(&full(pair[1]));
-            core.step();
+            core.masks.step();
         }
         core
     }
 
     fn e_l(&self, x: &Block) -> Block {
-        (self.e)(&xor(&self.l, x))
+        (self.e)(&xor(&self.masks.l(), x))
     }
 
     fn e_l_sharp(&self, x: &Block) -> Block {
-        (self.e)(&xor(&self.l_sharp, x))
+        (self.e)(&xor(&self.masks.l_sharp(), x))
     }
 
     /// Line 16: msb_|x|(E(L)) xor x, where E(L) is E(L xor zero). Where x has no byte there is
@@ -61,27 +60,16 @@ impl<'a> Core<'a> {
         self.sigma = xor(&self.sigma, x);
     }
 
-    /// Line 8; the step, not figure 1's comment, decides (01).
-    fn step(&mut self) {
-        self.l = xor(&self.l, &self.l_sharp);
-        self.l_sharp = double(&self.l_sharp);
-    }
-
-    /// Lines 14, 18, 19 and 20.
+    /// Lines 19 and 20.
     fn te(&self, m: usize, last_block: &[u8]) -> Block {
-        let l_star = if m % 2 == 0 { self.l_sharp } else { self.l };
-        let mask = if last_block.len() != BLOCK_BYTES {
-            times_3_squared(&l_star)
-        } else {
-            times_7(&l_star)
-        };
+        let mask = self.masks.last(m, last_block.len() != BLOCK_BYTES);
         (self.e)(&xor(&mask, &self.sigma))
     }
 }
 
-/// EF with its U: the ciphertext C and TE.
-pub fn ef(e: Cipher, u: &Block, message: &[u8]) -> (Vec<u8>, Block) {
-    let mut core = Core::start(e, u);
+/// EF from its masks: the ciphertext C and TE.
+pub fn ef(e: Cipher, masks: Masks, message: &[u8]) -> (Vec<u8>, Block) {
+    let mut core = Core::start(e, masks);
     let blocks = partition(message);
     // i = 1 to ceil(m/2) - 1.
     let (pairs, last) = blocks.split_at(2 * (blocks.len().div_ceil(2) - 1));
@@ -114,7 +102,7 @@ fn ef_pair(core: &mut Core, m_odd: &Block, m_even: &Block) -> Vec<u8> {
     let c_odd = xor(&core.e_l(m_odd), m_even);
     let c_even = xor(&core.e_l_sharp(&c_odd), m_odd);
     core.add_to_sigma(m_even);
-    core.step();
+    core.masks.step();
     [c_odd, c_even].concat()
 }
 
@@ -135,9 +123,9 @@ fn ef_last_one(core: &mut Core, m_last: &[u8]) -> Vec<u8> {
     c_last
 }
 
-/// DF with its U: the message M and TE.
-pub fn df(e: Cipher, u: &Block, c: &[u8]) -> (Vec<u8>, Block) {
-    let mut core = Core::start(e, u);
+/// DF from its masks: the message M and TE.
+pub fn df(e: Cipher, masks: Masks, c: &[u8]) -> (Vec<u8>, Block) {
+    let mut core = Core::start(e, masks);
     let blocks = partition(c);
     let m = blocks.len();
     let mut message = Vec::with_capacity(c.len());
@@ -163,7 +151,7 @@ fn df_pair(core: &mut Core, c_odd: &Block, c_even: &Block) -> Vec<u8> {
     let m_odd = xor(&core.e_l_sharp(c_odd), c_even);
     let m_even = xor(&core.e_l(&m_odd), c_odd);
     core.add_to_sigma(&m_even);
-    core.step();
+    core.masks.step();
     [m_odd, m_even].concat()
 }
 

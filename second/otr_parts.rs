@@ -1,31 +1,40 @@
 //! OTR-E in parts (wish 3 of 02), over any block cipher E. The message fed so far is kept
-//! whole, with U and TA; the masks and the checksum are worked out from these anew in each
-//! call, which takes no run of E. So E runs only for the blocks that a call gives out and for
-//! the tag, in the call that needs it, and each block once: over all calls as often as in one.
+//! whole, with TA and the masks of the beginning; the masks that follow and the checksum are
+//! worked out from these anew in each call, which takes no run of E. So E runs only for the
+//! blocks that a call gives out and for the tag, in the call that needs it, and each block
+//! once: over all calls as often as in one.
 
 use crate::block::{partition, Block, Cipher, BLOCK_BYTES};
 use crate::data_pass::FirstMask;
-use crate::form::Form;
+use crate::edition::Edition;
+use crate::masks::Masks;
 use crate::message_pass::{ef_last, ef_pairs, Core};
-use crate::otr::{ta, tag, u};
+use crate::otr::{masks, ta, tag};
 
 pub struct OtrParts {
-    form: Form,
+    edition: Edition,
     t: usize,
     ta: Block,
-    u: Block,
+    masks: Masks,
     fed: Vec<u8>,
 }
 
 impl OtrParts {
-    pub fn begin(form: Form, e: Cipher, mask: FirstMask, t: usize, n: &[u8], a: &[u8]) -> OtrParts {
-        let ta = ta(form, e, mask, a);
-        let u = u(form, e, t, n, &ta);
+    pub fn begin(
+        edition: Edition,
+        e: Cipher,
+        first_mask: FirstMask,
+        t: usize,
+        n: &[u8],
+        a: &[u8],
+    ) -> OtrParts {
+        let ta = ta(edition, e, first_mask, a);
+        let masks = masks(edition, e, t, n, &ta);
         OtrParts {
-            form,
+            edition,
             t,
             ta,
-            u,
+            masks,
             fed: Vec::new(),
         }
     }
@@ -36,7 +45,7 @@ impl OtrParts {
         self.fed.extend(part);
         let after = self.blocks_given_out();
         let blocks = partition(&self.fed);
-        let mut core = Core::behind(e, &self.u, &blocks[..before]);
+        let mut core = Core::behind(e, self.masks, &blocks[..before]);
         ef_pairs(&mut core, &blocks[before..after])
     }
 
@@ -44,9 +53,9 @@ impl OtrParts {
     pub fn end(&self, e: Cipher) -> Vec<u8> {
         let blocks = partition(&self.fed);
         let (pairs, last) = blocks.split_at(self.blocks_given_out());
-        let mut core = Core::behind(e, &self.u, pairs);
+        let mut core = Core::behind(e, self.masks, pairs);
         let (c, te) = ef_last(&mut core, last);
-        [c, tag(self.form, self.t, &te, &self.ta)].concat()
+        [c, tag(self.edition, self.t, &te, &self.ta)].concat()
     }
 
     /// How many bytes were fed in all.

@@ -6,17 +6,19 @@ use crate::block::Block;
 use crate::call::{Answer, MESSAGE_MAX};
 use crate::data_pass::FirstMask;
 use crate::division::Division::{self, Of};
-use crate::form::Form;
+use crate::edition::Edition::Third;
+use crate::edition::THIRD_SERIAL;
+use crate::form::Form::{Parallel, Serial};
 use crate::generator::Generator;
 use crate::otr::otr_e;
 use crate::otr_parts::OtrParts;
-use crate::parts::DIVISIONS;
+use crate::parts::{DIVISIONS, FAULTS, THIRD};
 use crate::request::{Request, FILL};
 use crate::rules;
 use crate::runs_tests::{parallel_formula, sealing};
 use crate::sealer::Sealer;
 use crate::seam_lengths::USUAL;
-use crate::seam_requests::{self, two_faults_of, FAULTS};
+use crate::seam_requests::{self, two_faults_of};
 use crate::standin::stand_in;
 
 const DATA: [usize; 4] = [0, 5, 16, 17];
@@ -28,7 +30,13 @@ pub fn given_out(n: usize) -> usize {
 
 fn begin(sealing: &Request) -> (Sealer, Answer) {
     let key = sealing.key.raw().unwrap();
-    Sealer::begin(sealing.form, key, &sealing.nonce, &sealing.data, sealing.t)
+    Sealer::begin(
+        sealing.mode.form,
+        key,
+        &sealing.nonce,
+        &sealing.data,
+        sealing.t,
+    )
 }
 
 fn begun(sealing: &Request) -> Sealer {
@@ -57,16 +65,16 @@ fn check_refused(number: u8, room: usize, call: impl FnOnce(&mut [u8]) -> Answer
 #[test]
 fn however_divided_the_outputs_joined_are_what_one_call_seals() {
     let draw = &mut Generator::new(1);
-    for form in [0, 1] {
+    for mode in THIRD {
         for message in 0..=130 {
-            let sealing = sealing(form, 24, DATA[message % 4], message);
+            let sealing = sealing(mode, 24, DATA[message % 4], message);
             for division in DIVISIONS.into_iter().chain([Of(1)]) {
                 check_divided(draw, &sealing, division);
             }
         }
         for message in [MESSAGE_MAX - 1, MESSAGE_MAX] {
             for division in DIVISIONS {
-                check_divided(draw, &sealing(form, 16, 5, message), division);
+                check_divided(draw, &sealing(mode, 16, 5, message), division);
             }
         }
     }
@@ -98,9 +106,9 @@ fn check_divided(draw: &mut Generator, sealing: &Request, division: Division) {
 
 #[test]
 fn empty_parts_anywhere_change_nothing() {
-    for form in [0, 1] {
+    for mode in THIRD {
         for message in [0, 1, 31, 32, 33, 64, 65] {
-            let sealing = sealing(form, 16, 5, message);
+            let sealing = sealing(mode, 16, 5, message);
             let mut sealer = begun(&sealing);
             let mut joined = Vec::new();
             for part in [&[], &sealing.body[..message / 2], &[], &[]] {
@@ -120,7 +128,7 @@ fn empty_parts_anywhere_change_nothing() {
 #[test]
 fn the_blocks_handed_over_are_those_of_one_call() {
     let (n, message, ciphered) = (rules::nonce(12), rules::message(100), FirstMask::Ciphered);
-    for form in [Form::Parallel, Form::Serial] {
+    for edition in [Third(Parallel), Third(Serial)] {
         for data in DATA {
             let a = rules::data(data);
             let handed_over = RefCell::new(Vec::new());
@@ -129,7 +137,7 @@ fn the_blocks_handed_over_are_those_of_one_call() {
                 stand_in(b)
             };
             let count = || handed_over.borrow().len();
-            let mut sealer = OtrParts::begin(form, &e, ciphered, 16, &n, &a);
+            let mut sealer = OtrParts::begin(edition, &e, ciphered, 16, &n, &a);
             let mut counts = vec![count()];
             for part in [&message[..20], &message[20..50], &message[50..]] {
                 sealer.feed(&e, part);
@@ -140,7 +148,7 @@ fn the_blocks_handed_over_are_those_of_one_call() {
             let beginning = parallel_formula(data, 0) - 1;
             assert_eq!(counts, [0, 0, 2, 6, 8].map(|more| beginning + more));
             let in_parts = handed_over.take();
-            otr_e(form, &e, ciphered, 16, &n, &a, &message);
+            otr_e(edition, &e, ciphered, 16, &n, &a, &message);
             assert_eq!(in_parts, handed_over.take());
         }
     }
@@ -150,9 +158,9 @@ fn the_blocks_handed_over_are_those_of_one_call() {
 /// the data's blocks.
 #[test]
 fn beginnings_count_the_nonce_block_and_the_data_pass() {
-    for form in [0, 1] {
+    for mode in THIRD {
         for (data, runs) in [(0, 1), (1, 3), (16, 3), (17, 4), (4_096, 258)] {
-            assert_eq!(begin(&sealing(form, 32, data, 0)).1.runs, runs);
+            assert_eq!(begin(&sealing(mode, 32, data, 0)).1.runs, runs);
         }
     }
 }
@@ -160,9 +168,9 @@ fn beginnings_count_the_nonce_block_and_the_data_pass() {
 /// What is left and the runs of an end: its blocks, and the tag's.
 #[test]
 fn ends_count_what_is_left_and_the_tag() {
-    for form in [0, 1] {
+    for mode in THIRD {
         for (message, runs) in [(0, 1), (1, 2), (16, 2), (17, 3), (32, 3), (33, 2), (64, 3)] {
-            let sealing = sealing(form, 16, 5, message);
+            let sealing = sealing(mode, 16, 5, message);
             let mut sealer = begun(&sealing);
             accepted(64, |output| sealer.feed(&sealing.body, output));
             assert_eq!(accepted(64, |output| sealer.end(output)).0, runs);
@@ -174,9 +182,9 @@ fn ends_count_what_is_left_and_the_tag() {
 /// and without, an end with one byte too few.
 #[test]
 fn refused_calls_change_nothing() {
-    for form in [0, 1] {
+    for mode in THIRD {
         for message in 0..=100 {
-            let sealing = sealing(form, 16, 5, message);
+            let sealing = sealing(mode, 16, 5, message);
             let mut sealer = begun(&sealing);
             let mut joined = Vec::new();
             let mut n = 0;
@@ -211,8 +219,8 @@ fn check_refusals(sealer: &mut Sealer, n: usize, part: &[u8], t: usize) {
 /// A part that ends at 16,384 is the last with bytes in it; the sealer goes on.
 #[test]
 fn at_most_16384_bytes_are_fed() {
-    for form in [0, 1] {
-        let sealing = sealing(form, 16, 5, MESSAGE_MAX);
+    for mode in THIRD {
+        let sealing = sealing(mode, 16, 5, MESSAGE_MAX);
         let (first, second) = sealing.body.split_at(MESSAGE_MAX - 1);
         let mut sealer = begun(&sealing);
         let mut joined = accepted(MESSAGE_MAX, |output| sealer.feed(first, output)).1;
@@ -229,9 +237,9 @@ fn at_most_16384_bytes_are_fed() {
 fn ended_stays_ended() {
     let mut never_begun = Sealer::default();
     check_ended(&mut never_begun);
-    for form in [0, 1] {
+    for mode in THIRD {
         for message in [0, 20, 40] {
-            let sealing = sealing(form, 16, 5, message);
+            let sealing = sealing(mode, 16, 5, message);
             let mut sealer = begun(&sealing);
             accepted(64, |output| sealer.feed(&sealing.body, output));
             accepted(64, |output| sealer.end(output));
@@ -258,9 +266,9 @@ fn check_ended(sealer: &mut Sealer) {
 #[test]
 fn refused_beginnings_count_as_ended() {
     let draw = &mut Generator::new(1);
-    let faults = &FAULTS[..5];
-    let firsts = (0..5).flat_map(|place| vec![faults[place]; 5 - place]);
-    let list = two_faults_of(draw, faults, |draw| seam_requests::sealing(draw, 1, USUAL));
+    let firsts = (0..5).flat_map(|place| vec![FAULTS[place]; 5 - place]);
+    let sound = |draw: &mut Generator| seam_requests::sealing(draw, THIRD_SERIAL, USUAL);
+    let list = two_faults_of(draw, &FAULTS, sound);
     assert_eq!(list.len(), 15);
     for (refused, number) in list.iter().zip(firsts) {
         let (mut sealer, answer) = begin(refused);

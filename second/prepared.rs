@@ -3,6 +3,7 @@
 
 use crate::block::BLOCK_BYTES;
 use crate::call::{DATA_MAX, MESSAGE_MAX};
+use crate::edition::{Mode, MODES};
 use crate::exchange::Exchange;
 use crate::failure::Failure;
 use crate::generator::Generator;
@@ -10,8 +11,10 @@ use crate::key::Key;
 use crate::random_prepared::random_prepared;
 use crate::request::{Kind, Request};
 use crate::requests::write_seeded;
-use crate::seam_lengths::{Lengths, DATA, MESSAGES, USUAL};
-use crate::seam_requests::{around, other_bytes, sealing, two_faults_in};
+use crate::seam_lengths::{at_every_tag, Lengths, DATA, MESSAGES, USUAL};
+use crate::seam_requests::{
+    around, in_other_modes, other_bytes, refused_modes, sealing, two_faults_in,
+};
 
 const SEED: u64 = u64::MAX - 2;
 /// On both sides of each key length.
@@ -35,30 +38,36 @@ pub fn fixed() -> Vec<Exchange> {
 
 fn calls(draw: &mut Generator) -> Vec<Request> {
     let mut list = Vec::new();
-    for form in [0, 1] {
-        for lengths in lengths(form) {
-            let sealing = prepared(draw, form, lengths);
+    for (turn, mode) in MODES.into_iter().enumerate() {
+        for lengths in lengths(turn) {
+            let sealing = prepared(draw, mode, lengths);
+            list.extend(sealing.opening().iter().flat_map(in_other_modes));
             list.extend(sealed_opened_damaged(draw, sealing));
         }
-        let sealing = prepared(draw, form, USUAL);
+        let sealing = prepared(draw, mode, USUAL);
         list.extend(around(draw, &sealing));
-        list.extend(foreign_masks(draw, form));
-        list.extend(foreign_round_keys(draw, form));
-        list.extend(unused_words(draw, form));
-        list.extend(round_counts(draw, form));
+        list.extend(foreign_masks(draw, mode));
+        list.extend(foreign_round_keys(draw, mode));
+        list.extend(unused_words(draw, mode));
+        list.extend(round_counts(draw, mode));
         for kind in [Kind::Seal, Kind::Open] {
             list.extend(two_faults_in(draw, kind, |draw| {
-                prepared(draw, form, USUAL)
+                prepared(draw, mode, USUAL)
             }));
-            list.extend(other_faults(draw, form, kind));
+            list.extend(other_faults(draw, mode, kind));
         }
+    }
+    for mode in refused_modes() {
+        let sealing = prepared(draw, mode, USUAL);
+        list.extend(sealed_opened_damaged(draw, sealing));
     }
     list
 }
 
 /// Every seam message of 01, every seam data with a message of 33 bytes and with none, both at
-/// their longest, and the shortest and the longest nonce. The key lengths take turns.
-fn lengths(form: usize) -> Vec<Lengths> {
+/// their longest, and the shortest, a usual and the longest nonce with every tag. The key
+/// lengths take turns.
+fn lengths(turn: usize) -> Vec<Lengths> {
     let with_message = |message, data| Lengths {
         message,
         data,
@@ -69,18 +78,16 @@ fn lengths(form: usize) -> Vec<Lengths> {
     list.extend(DATA.map(|data| with_message(33, data)));
     list.extend(DATA.map(|data| with_message(0, data)));
     list.push(with_message(MESSAGE_MAX, DATA_MAX));
-    for (nonce, t) in [(1, 4), (15, 15), (15, 16)] {
-        list.push(Lengths { nonce, t, ..USUAL });
-    }
+    list.extend(at_every_tag(&[1, 12, 15]));
     for (place, lengths) in list.iter_mut().enumerate() {
-        lengths.key = [16, 24, 32][(place + form) % 3];
+        lengths.key = [16, 24, 32][(place + turn) % 3];
     }
     list
 }
 
 /// A sealing with exact room under the record that preparing gave.
-fn prepared(draw: &mut Generator, form: usize, lengths: Lengths) -> Request {
-    sealing(draw, form, lengths).under_record(|_| ())
+fn prepared(draw: &mut Generator, mode: Mode, lengths: Lengths) -> Request {
+    sealing(draw, mode, lengths).under_record(|_| ())
 }
 
 /// The sealing, its opening with exact room, and that with one bit changed. Where the sealing
@@ -110,11 +117,11 @@ fn opened_under(sealing: &Request, key: &Key) -> Option<Request> {
 
 /// First masks that are not E(0^n), with and without data; and what the prepared record
 /// sealed, opened with such a mask.
-fn foreign_masks(draw: &mut Generator, form: usize) -> Vec<Request> {
+fn foreign_masks(draw: &mut Generator, mode: Mode) -> Vec<Request> {
     let mut list = Vec::new();
     for (key, data) in [(16, 0), (24, 0), (16, 5), (24, 16), (32, 33)] {
         let lengths = Lengths { key, data, ..USUAL };
-        let sealing = prepared(draw, form, lengths);
+        let sealing = prepared(draw, mode, lengths);
         let foreign = sealing.under_record(|record| draw.fill(&mut record.zero));
         list.extend(opened_under(&sealing, &foreign.key));
         list.push(sealing);
@@ -124,12 +131,12 @@ fn foreign_masks(draw: &mut Generator, form: usize) -> Vec<Request> {
 }
 
 /// All 240 bytes arbitrary: no key expands to them.
-fn foreign_round_keys(draw: &mut Generator, form: usize) -> Vec<Request> {
+fn foreign_round_keys(draw: &mut Generator, mode: Mode) -> Vec<Request> {
     let mut list = Vec::new();
     for rounds in [10, 12, 14] {
         for data in [0, 17] {
             let lengths = Lengths { data, ..USUAL };
-            let foreign = prepared(draw, form, lengths).under_record(|record| {
+            let foreign = prepared(draw, mode, lengths).under_record(|record| {
                 record.rounds = rounds;
                 draw.fill(&mut record.round_keys);
                 draw.fill(&mut record.zero);
@@ -142,10 +149,10 @@ fn foreign_round_keys(draw: &mut Generator, form: usize) -> Vec<Request> {
 
 /// Words that are not used and not zero: each answer is the prepared record's. 14 rounds use
 /// all of them.
-fn unused_words(draw: &mut Generator, form: usize) -> Vec<Request> {
+fn unused_words(draw: &mut Generator, mode: Mode) -> Vec<Request> {
     let mut list = Vec::new();
     for key in [16, 24] {
-        let sealing = prepared(draw, form, Lengths { key, ..USUAL });
+        let sealing = prepared(draw, mode, Lengths { key, ..USUAL });
         for request in sealed_opened_damaged(draw, sealing) {
             list.push(request.under_record(|record| {
                 draw.fill(&mut record.round_keys[BLOCK_BYTES * (record.rounds + 1)..]);
@@ -157,8 +164,8 @@ fn unused_words(draw: &mut Generator, form: usize) -> Vec<Request> {
 }
 
 /// Over one record of 14 rounds; and what it sealed, opened with each round count.
-fn round_counts(draw: &mut Generator, form: usize) -> Vec<Request> {
-    let sealing = prepared(draw, form, Lengths { key: 32, ..USUAL });
+fn round_counts(draw: &mut Generator, mode: Mode) -> Vec<Request> {
+    let sealing = prepared(draw, mode, Lengths { key: 32, ..USUAL });
     let mut list = Vec::new();
     for rounds in ROUNDS {
         let counted = sealing.under_record(|record| record.rounds = rounds);
@@ -170,17 +177,19 @@ fn round_counts(draw: &mut Generator, form: usize) -> Vec<Request> {
 
 /// The record of a refused key, the largest numbers, the shortest nonce and sealed bytes:
 /// what is beside the two faults of the raw key's requests.
-fn other_faults(draw: &mut Generator, form: usize, kind: Kind) -> Vec<Request> {
-    let of_zeros = prepared(draw, form, Lengths { key: 17, ..USUAL });
-    let sound = prepared(draw, form, USUAL);
+fn other_faults(draw: &mut Generator, mode: Mode, kind: Kind) -> Vec<Request> {
+    let of_zeros = prepared(draw, mode, Lengths { key: 17, ..USUAL });
+    let sound = prepared(draw, mode, USUAL);
     let mut most = sound.under_record(|record| record.rounds = 65_535);
-    most.form = 65_535;
+    most.mode.form = 65_535;
+    let mut most_of_all = most.clone();
+    most_of_all.mode.edition = 65_535;
     let no_nonce = Request {
         nonce: Vec::new(),
         ..sound.clone()
     };
     let eleven = no_nonce.under_record(|record| record.rounds = 11);
-    let list = [of_zeros, most, no_nonce, eleven];
+    let list = [of_zeros, most, most_of_all, no_nonce, eleven];
     match kind {
         Kind::Seal => list.into(),
         Kind::Open => {

@@ -3,8 +3,10 @@
 use crate::aes::{substitute, Aes, ZERO_ROUND_KEYS};
 use crate::block::{double, pad, times_3, times_3_squared, xor, Block, BLOCK_BYTES, ZERO};
 use crate::data_pass::FirstMask;
+use crate::edition::Edition::{First, Third};
+use crate::edition::{FIRST, MODES, THIRD_PARALLEL, THIRD_SERIAL};
 use crate::exchange::Exchange;
-use crate::form::Form;
+use crate::form::Form::{Parallel, Serial};
 use crate::generator::Generator;
 use crate::otr::{format, otr_e};
 use crate::prepared;
@@ -102,11 +104,11 @@ fn under_its_record_a_call_answers_as_with_its_key() {
 }
 
 fn for_each_seam(check: impl Fn(&Request)) {
-    for form in [0, 1] {
+    for mode in MODES {
         for key in KEYS {
             for data in DATA {
                 for message in MESSAGES {
-                    check(&sealing(form, key, data, message));
+                    check(&sealing(mode, key, data, message));
                 }
             }
         }
@@ -127,7 +129,7 @@ fn under_its_record(raw: &Request) -> Request {
     raw.under_record(|_| ())
 }
 
-/// Wish 6's formula without the one for the zero block, in both forms.
+/// Wish 6's formula without the one for the zero block, in each edition and form.
 #[test]
 fn the_zero_block_is_not_ciphered_again() {
     for_each_seam(|sealing| {
@@ -139,14 +141,15 @@ fn the_zero_block_is_not_ciphered_again() {
 /// With parallel ADP TA goes into the tag alone, with serial ADP into U.
 #[test]
 fn a_foreign_mask_matters_where_there_is_data() {
-    for form in [0, 1] {
+    for mode in MODES {
         for data in DATA {
-            let sealing = under_its_record(&sealing(form, 24, data, 33));
+            let sealing = under_its_record(&sealing(mode, 24, data, 33));
             let foreign = sealing.under_record(|record| record.zero = rules::lent_mask());
             check_sealed_opened_damaged(&foreign, 5 + data.div_ceil(16));
             let (sealed, sealed_foreign) = (sealing.call().1, foreign.call().1);
             assert_eq!(sealed[33..] == sealed_foreign[33..], data == 0);
-            assert_eq!(sealed[..33] == sealed_foreign[..33], data == 0 || form == 0);
+            let same_ciphertext = data == 0 || mode != THIRD_SERIAL;
+            assert_eq!(sealed[..33] == sealed_foreign[..33], same_ciphertext);
             let opening = Request {
                 key: foreign.key,
                 ..sealing.opening().unwrap()
@@ -156,48 +159,52 @@ fn a_foreign_mask_matters_where_there_is_data() {
     }
 }
 
-/// AF: 3Q for a short last block, 3^2 Q for a full one; AF-S: 2Q and 4Q. TE of an empty
-/// message is E(3^2 U xor 80 00...).
+/// AF: 3Q for a short last block, 3^2 Q for a full one; AF-S: 2Q and 4Q; AF of 003: 4Q xor Q
+/// and 4Q xor 2Q, where its gamma is Q. TE of an empty message is E(3^2 U xor 80 00...), and in
+/// 003 E(3 4 delta xor 80 00...).
 #[test]
 fn a_lent_mask_by_hand() {
     let (n, q) = (rules::nonce(12), rules::lent_mask());
     assert_eq!(q, block("071a2d405366798c9fb2c5d8ebfe1124"));
-    let tag = |form, a: &[u8]| otr_e(form, &stand_in, FirstMask::Lent(q), 16, &n, a, &[]).1;
+    let tag = |edition, a: &[u8]| otr_e(edition, &stand_in, FirstMask::Lent(q), 16, &n, a, &[]).1;
     let te = |u: &Block| stand_in(&xor(&times_3_squared(u), &pad(&[])));
     let nonce_block = stand_in(&format(16, &n));
-    for (a, mask, mask_s) in [
-        (vec![0xff], times_3(&q), double(&q)),
-        (vec![0xff; 16], times_3_squared(&q), double(&double(&q))),
+    let l = double(&double(&stand_in(&pad(&n))));
+    let te_first = stand_in(&xor(&times_3(&l), &pad(&[])));
+    let (q2, q4) = (double(&q), double(&double(&q)));
+    for (a, mask, mask_s, mask_first) in [
+        (vec![0xff], times_3(&q), q2, xor(&q4, &q)),
+        (vec![0xff; 16], times_3_squared(&q), q4, xor(&q4, &q2)),
     ] {
-        let ta = stand_in(&xor(&mask, &pad(&a)));
-        assert_eq!(tag(Form::Parallel, &a), xor(&te(&nonce_block), &ta));
-        let ta_s = stand_in(&xor(&mask_s, &pad(&a)));
-        let u = double(&xor(&nonce_block, &ta_s));
-        assert_eq!(tag(Form::Serial, &a), te(&u));
+        let ta = |mask| stand_in(&xor(mask, &pad(&a)));
+        assert_eq!(tag(Third(Parallel), &a), xor(&te(&nonce_block), &ta(&mask)));
+        let u = double(&xor(&nonce_block, &ta(&mask_s)));
+        assert_eq!(tag(Third(Serial), &a), te(&u));
+        assert_eq!(tag(First, &a), xor(&te_first, &ta(&mask_first)));
     }
 }
 
-/// `FORM MESSAGELEN DATALEN K T RUNS HEX`.
+/// `EDITION FORM MESSAGELEN DATALEN K T RUNS HEX`.
 #[test]
 fn the_rows_with_a_lent_mask_count_no_zero_block() {
     let rows = standin::command_lent();
     for row in rows.lines() {
         let numbers: Vec<usize> = row
             .split(' ')
-            .take(6)
+            .take(7)
             .map(|field| field.parse().unwrap())
             .collect();
-        let blocks = numbers[1].div_ceil(16) + numbers[2].div_ceil(16);
-        assert_eq!(numbers[5], 2 + blocks, "{row}");
+        let blocks = numbers[2].div_ceil(16) + numbers[3].div_ceil(16);
+        assert_eq!(numbers[6], 2 + blocks, "{row}");
     }
-    assert_eq!(rows.lines().count(), 16);
+    assert_eq!(rows.lines().count(), 24);
 }
 
 #[test]
 fn words_not_used_do_not_matter() {
-    for form in [0, 1] {
+    for mode in MODES {
         for key in [16, 24] {
-            let sealing = sealing(form, key, 17, 33);
+            let sealing = sealing(mode, key, 17, 33);
             for raw in [sealing.opening().unwrap(), sealing] {
                 let filled = raw.under_record(|record| {
                     record.round_keys[BLOCK_BYTES * (record.rounds + 1)..].fill(0xff);
@@ -210,8 +217,8 @@ fn words_not_used_do_not_matter() {
 
 #[test]
 fn round_counts_but_10_12_and_14_are_refused_with_1_and_the_output_kept() {
-    for form in [0, 1] {
-        let sealing = under_its_record(&sealing(form, 32, 5, 20));
+    for mode in MODES {
+        let sealing = under_its_record(&sealing(mode, 32, 5, 20));
         for request in [sealing.opening().unwrap(), sealing] {
             for rounds in (0..=300).chain([65_535, usize::MAX]) {
                 let counted = request.under_record(|record| record.rounds = rounds);
@@ -231,9 +238,12 @@ fn round_counts_but_10_12_and_14_are_refused_with_1_and_the_output_kept() {
 fn of_two_faults_the_one_checked_first_is_the_answer() {
     let draw = &mut Generator::new(1);
     let firsts = (0..FAULTS.len()).flat_map(|place| vec![FAULTS[place]; FAULTS.len() - place]);
-    for kind in [Kind::Seal, Kind::Open] {
+    for (mode, kind) in [THIRD_SERIAL, FIRST]
+        .into_iter()
+        .flat_map(|mode| [(mode, Kind::Seal), (mode, Kind::Open)])
+    {
         let list = two_faults_in(draw, kind, |draw| {
-            under_its_record(&seam_requests::sealing(draw, 1, USUAL))
+            under_its_record(&seam_requests::sealing(draw, mode, USUAL))
         });
         let answers = list.iter().map(answer);
         let answers: Vec<_> = answers.map(|a| (a.number, a.length, a.runs)).collect();
@@ -245,7 +255,7 @@ fn of_two_faults_the_one_checked_first_is_the_answer() {
 #[test]
 fn the_fixed_requests_meet_every_answer() {
     let answers: Vec<String> = prepared::fixed().into_iter().map(|e| e.answer).collect();
-    for number in 0..=8 {
+    for number in (0..=8).chain([10]) {
         let start = format!("{number} ");
         assert!(answers.iter().any(|answer| answer.starts_with(&start)));
     }
@@ -257,9 +267,11 @@ fn the_lines_of_wish_9() {
     assert_eq!(refused.request, "prepare -\n");
     let zeros = format!("1 0 0 {} {}\n", "00".repeat(240), "00".repeat(16));
     assert_eq!(refused.answer, zeros);
-    let call = Exchange::of_call(&under_its_record(&sealing(0, 16, 7, 16)));
+    let call = Exchange::of_call(&under_its_record(&sealing(THIRD_PARALLEL, 16, 7, 16)));
     let record = prepare(&rules::key(16)).record.fields();
-    assert!(call.request.starts_with(&format!("seal-with 0 {record} ")));
-    assert_eq!(call.request.split_whitespace().count(), 10);
+    assert!(call
+        .request
+        .starts_with(&format!("seal-with 3 0 {record} ")));
+    assert_eq!(call.request.split_whitespace().count(), 11);
     assert!(call.answer.starts_with("0 32 4 "));
 }

@@ -1,5 +1,6 @@
 //! Keys prepared and calls under records, from the seeded generator.
 
+use crate::edition::MODES;
 use crate::exchange::Exchange;
 use crate::generator::Generator;
 use crate::random_requests::{random_call, sound_sealing};
@@ -9,7 +10,7 @@ pub fn random_prepared(draw: &mut Generator) -> Exchange {
     if draw.one_in(8) {
         return preparing(draw);
     }
-    let sealing = sound_sealing(draw).under_record(|record| some_record(draw, record));
+    let sealing = sound_sealing(draw, &MODES).under_record(|record| some_record(draw, record));
     let mut request = random_call(draw, sealing);
     if draw.one_in(8) {
         request = request.under_record(|record| {

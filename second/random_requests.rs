@@ -1,12 +1,14 @@
 //! Requests from the seeded generator: sound ones, some with a mishap or two.
 
 use crate::call::{DATA_MAX, MESSAGE_MAX};
+use crate::edition::{Mode, MODES};
 use crate::generator::Generator;
 use crate::key::Key;
 use crate::request::{Kind, Request};
+use crate::seam_requests::NO_EDITIONS;
 
 pub fn random_request(draw: &mut Generator) -> Request {
-    let sealing = sound_sealing(draw);
+    let sealing = sound_sealing(draw, &MODES);
     random_call(draw, sealing)
 }
 
@@ -23,10 +25,23 @@ pub fn random_call(draw: &mut Generator, sealing: Request) -> Request {
     if draw.one_in(8) {
         mishap(draw, &mut request);
     }
+    if draw.one_in(8) {
+        request.mode.edition = other_edition(draw, request.mode.edition);
+    }
     request
 }
 
-pub fn sound_sealing(draw: &mut Generator) -> Request {
+/// 1 for 3 and 3 for 1, or one that is neither.
+fn other_edition(draw: &mut Generator, edition: usize) -> usize {
+    if draw.one_in(2) {
+        4 - edition
+    } else {
+        draw.pick(&NO_EDITIONS)
+    }
+}
+
+/// In one of these modes.
+pub fn sound_sealing(draw: &mut Generator, modes: &[Mode]) -> Request {
     let key_bytes = draw.pick(&[16, 24, 32]);
     let nonce_bytes = draw.pick(&[12, 12, 12, 1, 2, 3, 4, 5, 6, 7, 8, 9, 10, 11, 13, 14, 15]);
     let data_bytes = if draw.one_in(4) { 0 } else { some_length(draw) };
@@ -38,7 +53,7 @@ pub fn sound_sealing(draw: &mut Generator) -> Request {
     };
     Request {
         kind: Kind::Seal,
-        form: draw.below(2),
+        mode: modes[draw.below(modes.len())],
         key: Key::Raw(draw.bytes(key_bytes)),
         nonce: draw.bytes(nonce_bytes),
         data: draw.bytes(data_bytes),
@@ -103,9 +118,9 @@ pub fn mishap(draw: &mut Generator, request: &mut Request) {
         18..=20 => request.room = draw.below(request.room + 1),
         21..=23 => one_byte_short(request),
         24..=25 => request.t = 4 + draw.below(13),
-        26..=28 => request.form = draw.pick(&[2, 3, 7, 10, 255, 256, 257, 65_535]),
+        26..=28 => request.mode.form = draw.pick(&[2, 3, 7, 10, 255, 256, 257, 65_535]),
         // 0 and 1 change places; a form that is neither stays neither.
-        29..=31 => request.form ^= 1,
+        29..=31 => request.mode.form ^= 1,
         _ => wrong_bit(draw, request),
     }
 }

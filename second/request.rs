@@ -1,6 +1,7 @@
 //! One sealing or opening that the library is asked for, and the answer that it must give.
 
 use crate::call::{open, seal, Answer};
+use crate::edition::Mode;
 use crate::hex;
 use crate::key::Key;
 use crate::record::Record;
@@ -17,7 +18,7 @@ pub enum Kind {
 #[derive(Clone)]
 pub struct Request {
     pub kind: Kind,
-    pub form: usize,
+    pub mode: Mode,
     pub key: Key,
     pub nonce: Vec<u8>,
     pub data: Vec<u8>,
@@ -36,7 +37,7 @@ impl Request {
             Kind::Open => open,
         };
         let answer = call(
-            self.form,
+            self.mode,
             &self.key,
             &self.nonce,
             &self.data,
@@ -73,9 +74,9 @@ impl Request {
         }
     }
 
-    /// `seal|open FORM KEY NONCE DATA BODY TAG ROOM`, or
-    /// `seal-with|open-with FORM ROUNDS WORDS ZERO NONCE DATA BODY TAG ROOM`, and the end of
-    /// the line.
+    /// `seal|open EDITION FORM KEY NONCE DATA BODY TAG ROOM`, or
+    /// `seal-with|open-with EDITION FORM ROUNDS WORDS ZERO NONCE DATA BODY TAG ROOM`, and the
+    /// end of the line.
     pub fn request_line(&self) -> String {
         let name = match self.kind {
             Kind::Seal => "seal",
@@ -85,9 +86,9 @@ impl Request {
             Key::Raw(key) => ("", hex::field(key)),
             Key::Prepared(record) => ("-with", record.fields()),
         };
-        let (form, t, room) = (self.form, self.t, self.room);
+        let (mode, t, room) = (self.mode, self.t, self.room);
         let strings = [&self.nonce, &self.data, &self.body];
         let fields = strings.map(|bytes| hex::field(bytes)).join(" ");
-        format!("{name}{with} {form} {key} {fields} {t} {room}\n")
+        format!("{name}{with} {mode} {key} {fields} {t} {room}\n")
     }
 }

@@ -5,13 +5,13 @@ use std::cell::Cell;
 
 use crate::block::{Block, Cipher};
 use crate::data_pass::FirstMask;
-use crate::form::Form;
+use crate::edition::Edition;
 use crate::hex;
 use crate::otr::otr_e;
 use crate::rules;
 
 pub struct Row {
-    pub form: Form,
+    pub edition: Edition,
     pub message: usize,
     pub data: usize,
     pub k: usize,
@@ -19,16 +19,13 @@ pub struct Row {
 }
 
 impl Row {
-    /// The number of the form, with which a row's line begins.
-    pub fn form_number(&self) -> usize {
-        self.form as usize
-    }
-
     /// `MESSAGELEN DATALEN K T RUNS HEX` and the end of the line.
     pub fn lengths_and_sealed(&self, e: Cipher, first_mask: FirstMask) -> String {
         let (n, a) = (rules::nonce(self.k), rules::data(self.data));
         let m = rules::message(self.message);
-        let ((c, tag), runs) = counted(e, |e| otr_e(self.form, e, first_mask, self.t, &n, &a, &m));
+        let ((c, tag), runs) = counted(e, |e| {
+            otr_e(self.edition, e, first_mask, self.t, &n, &a, &m)
+        });
         let sealed = hex::encode(&[c, tag].concat());
         format!(
             "{} {} {} {} {} {}\n",

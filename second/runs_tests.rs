@@ -3,27 +3,29 @@
 
 use std::cell::RefCell;
 
-use crate::block::{double, pad, times_3_squared, xor, Block};
+use crate::block::{double, pad, times_3, times_3_squared, xor, Block};
 use crate::call::Answer;
 use crate::data_pass::FirstMask;
+use crate::edition::{Edition, Mode, FIRST, MODES, THIRD_PARALLEL, THIRD_SERIAL};
 use crate::exchange::Exchange;
-use crate::form::Form;
+use crate::form::Form::{Parallel, Serial};
 use crate::generator::Generator;
 use crate::key::Key;
 use crate::otr::{format, otr_d, otr_e};
 use crate::request::{Kind, Request};
 use crate::rules;
-use crate::seam_requests::two_faults;
+use crate::seam_requests::{two_faults, FAULTS};
 use crate::standin::stand_in;
+use crate::tests::EDITIONS;
 
 pub const KEYS: [usize; 3] = [16, 24, 32];
 pub const DATA: [usize; 8] = [0, 1, 15, 16, 17, 32, 33, 4_096];
 pub const MESSAGES: [usize; 14] = [0, 1, 15, 16, 17, 31, 32, 33, 47, 48, 49, 64, 65, 16_384];
 
-pub fn sealing(form: usize, key: usize, data: usize, message: usize) -> Request {
+pub fn sealing(mode: Mode, key: usize, data: usize, message: usize) -> Request {
     Request {
         kind: Kind::Seal,
-        form,
+        mode,
         key: Key::Raw(rules::key(key)),
         nonce: rules::nonce(12),
         data: rules::data(data),
@@ -82,19 +84,24 @@ fn both_formulas_agree() {
 
 #[test]
 fn parallel_calls_count_what_the_wish_says() {
-    check_seams(0, parallel_formula);
+    check_seams(THIRD_PARALLEL, parallel_formula);
+}
+
+#[test]
+fn calls_of_the_first_edition_count_what_parallel_ones_do() {
+    check_seams(FIRST, parallel_formula);
 }
 
 #[test]
 fn serial_calls_count_what_the_figure_says() {
-    check_seams(1, serial_formula);
+    check_seams(THIRD_SERIAL, serial_formula);
 }
 
-fn check_seams(form: usize, formula: fn(usize, usize) -> usize) {
+fn check_seams(mode: Mode, formula: fn(usize, usize) -> usize) {
     for key in KEYS {
         for data in DATA {
             for message in MESSAGES {
-                let sealing = sealing(form, key, data, message);
+                let sealing = sealing(mode, key, data, message);
                 check_sealed_opened_damaged(&sealing, formula(data, message));
             }
         }
@@ -119,7 +126,7 @@ pub fn check_sealed_opened_damaged(sealing: &Request, runs: usize) {
 /// Data bytes, message bytes and runs, counted on the figures by hand.
 #[test]
 fn small_calls_by_hand() {
-    for form in [0, 1] {
+    for mode in MODES {
         for (data, message, runs) in [
             (0, 0, 2),
             (7, 0, 4),
@@ -132,7 +139,7 @@ fn small_calls_by_hand() {
             (0, 49, 6),
             (33, 65, 11),
         ] {
-            check_sealed_opened_damaged(&sealing(form, 16, data, message), runs);
+            check_sealed_opened_damaged(&sealing(mode, 16, data, message), runs);
         }
     }
 }
@@ -140,13 +147,13 @@ fn small_calls_by_hand() {
 /// Neither the nonce's length nor the tag's is in the number.
 #[test]
 fn nonce_and_tag_lengths_do_not_count() {
-    for form in [0, 1] {
+    for mode in MODES {
         for k in 1..=15 {
             for t in 4..=16 {
                 let request = Request {
                     nonce: rules::nonce(k),
                     t,
-                    ..sealing(form, 16, 5, 20)
+                    ..sealing(mode, 16, 5, 20)
                 };
                 check_sealed_opened_damaged(&request, 6);
             }
@@ -158,36 +165,45 @@ fn nonce_and_tag_lengths_do_not_count() {
 #[test]
 fn an_empty_message_hands_over_two_blocks() {
     let (n, ciphered) = (rules::nonce(12), FirstMask::Ciphered);
-    for form in [Form::Parallel, Form::Serial] {
+    for edition in EDITIONS {
         let handed_over = RefCell::new(Vec::new());
         let e = |b: &Block| {
             handed_over.borrow_mut().push(*b);
             stand_in(b)
         };
-        let (c, tag) = otr_e(form, &e, ciphered, 16, &n, &[], &[]);
-        assert!(otr_d(form, &e, ciphered, &n, &[], &c, &tag).is_some());
-        let nonce_block = format(16, &n);
-        let u = match form {
-            Form::Parallel => stand_in(&nonce_block),
-            Form::Serial => double(&stand_in(&nonce_block)),
-        };
-        let once = [nonce_block, xor(&times_3_squared(&u), &pad(&[]))];
+        let (c, tag) = otr_e(edition, &e, ciphered, 16, &n, &[], &[]);
+        assert!(otr_d(edition, &e, ciphered, &n, &[], &c, &tag).is_some());
+        let once = nonce_and_tag_blocks(edition, &n);
         assert_eq!(handed_over.into_inner(), [once, once].concat());
     }
 }
 
-/// Each of 8 and 1 to 6 alone, and every two together.
+fn nonce_and_tag_blocks(edition: Edition, n: &[u8]) -> [Block; 2] {
+    let nonce_block = match edition {
+        Edition::First => pad(n),
+        Edition::Third(_) => format(16, n),
+    };
+    let ciphered = stand_in(&nonce_block);
+    let mask = match edition {
+        Edition::First => times_3(&double(&double(&ciphered))),
+        Edition::Third(Parallel) => times_3_squared(&ciphered),
+        Edition::Third(Serial) => times_3_squared(&double(&ciphered)),
+    };
+    [nonce_block, xor(&mask, &pad(&[]))]
+}
+
+/// Each of 10, 8 and 1 to 6 alone, and every two together.
 #[test]
 fn the_other_refusals_report_0() {
     let draw = &mut Generator::new(1);
     for kind in [Kind::Seal, Kind::Open] {
-        for form in [0, 1] {
-            let answers: Vec<Answer> = two_faults(draw, form, kind).iter().map(answer).collect();
-            for number in [8, 1, 2, 3, 4, 5, 6] {
+        for mode in MODES {
+            let answers: Vec<Answer> = two_faults(draw, mode, kind).iter().map(answer).collect();
+            for number in FAULTS {
                 assert!(answers.iter().any(|answer| answer.number == number));
             }
             for answer in answers {
-                assert!((1..=6).contains(&answer.number) || answer.number == 8);
+                assert!(FAULTS.contains(&answer.number));
                 assert_eq!(answer.runs, 0);
             }
         }
@@ -196,8 +212,8 @@ fn the_other_refusals_report_0() {
 
 #[test]
 fn sealed_bytes_shorter_than_the_tag_report_0() {
-    for form in [0, 1] {
-        let mut opening = sealing(form, 16, 5, 20).opening().unwrap();
+    for mode in MODES {
+        let mut opening = sealing(mode, 16, 5, 20).opening().unwrap();
         opening.body.truncate(15);
         let refused = answer(&opening);
         assert_eq!((refused.number, refused.runs), (5, 0));
@@ -206,9 +222,9 @@ fn sealed_bytes_shorter_than_the_tag_report_0() {
 
 #[test]
 fn the_answer_line_has_the_runs_third() {
-    let line = Exchange::of_call(&sealing(0, 16, 7, 16)).answer;
+    let line = Exchange::of_call(&sealing(THIRD_PARALLEL, 16, 7, 16)).answer;
     assert!(line.starts_with("0 32 5 "));
     assert_eq!(line.split_whitespace().count(), 4);
-    let refused = Exchange::of_call(&sealing(2, 16, 7, 16)).answer;
+    let refused = Exchange::of_call(&sealing(Mode::new(3, 2), 16, 7, 16)).answer;
     assert!(refused.starts_with("8 0 0 a5a5"));
 }

@@ -1,9 +1,11 @@
-//! The calls of a sealer in parts (wish 3 of 02): begun with a raw key, fed, ended. It has one
-//! cipher from its beginning to its end, whose counter goes on: a call reports what it added.
+//! The calls of a sealer in parts (wish 3 of 02): begun with a raw key, fed, ended. It stays
+//! with the third edition (wish 7), and so names none. It has one cipher from its beginning to
+//! its end, whose counter goes on: a call reports what it added.
 
 use crate::aes::Aes;
 use crate::block::Cipher;
 use crate::call::{checked_to_4, done, refused, Answer, MESSAGE_MAX};
+use crate::edition::Mode;
 use crate::key::Key;
 use crate::otr_parts::OtrParts;
 
@@ -23,11 +25,12 @@ impl Sealer {
     /// 8, then 1 to 4. The sealer of a beginning that is refused counts as ended.
     pub fn begin(form: usize, key: &[u8], nonce: &[u8], data: &[u8], t: usize) -> (Sealer, Answer) {
         let key = Key::Raw(key.to_vec());
-        let (form, aes, mask) = match checked_to_4(form, &key, nonce, data, t) {
+        let mode = Mode::new(3, form);
+        let (edition, aes, mask) = match checked_to_4(mode, &key, nonce, data, t) {
             Ok(checked) => checked,
             Err(number) => return (Sealer::default(), refused(number)),
         };
-        let parts = OtrParts::begin(form, &|b| aes.cipher(b), mask, t, nonce, data);
+        let parts = OtrParts::begin(edition, &|b| aes.cipher(b), mask, t, nonce, data);
         let answer = done(&[], aes.runs(), &mut []);
         let begun = Some(Begun { aes, parts });
         (Sealer { begun }, answer)

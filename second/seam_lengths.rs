@@ -79,7 +79,7 @@ pub fn seam_lengths() -> Vec<Lengths> {
     for nonce in 0..=16 {
         list.push(Lengths { nonce, ..USUAL });
     }
-    list.extend(longest_nonces());
+    list.extend(at_every_tag(&[1, 12, 15, 16]));
     for message in [0, 17, 33] {
         for t in 3..=17 {
             list.push(Lengths {
@@ -103,10 +103,10 @@ pub fn seam_lengths() -> Vec<Lengths> {
     list
 }
 
-/// The longest nonce and one byte more, at every tag length.
-pub fn longest_nonces() -> Vec<Lengths> {
+/// These nonces, each at every tag length.
+pub fn at_every_tag(nonces: &[usize]) -> Vec<Lengths> {
     let mut list = Vec::new();
-    for nonce in [15, 16] {
+    for &nonce in nonces {
         for t in 4..=16 {
             list.push(Lengths { nonce, t, ..USUAL });
         }

@@ -3,20 +3,28 @@
 
 use crate::block::{partition, BLOCK_BYTES};
 use crate::call::DATA_MAX;
+use crate::edition::{Mode, FIRST, THIRD_PARALLEL, THIRD_SERIAL};
 use crate::failure::Failure;
 use crate::files;
 use crate::hex;
 use crate::key::Key;
 use crate::request::{Kind, Request};
 use crate::rules;
-use crate::seam_lengths::{longest_nonces, Lengths, MESSAGES, USUAL};
+use crate::seam_lengths::{at_every_tag, Lengths, MESSAGES, USUAL};
 
 const MESSAGES_WITHOUT_DATA: [usize; 5] = [0, 1, 16, 17, 33];
 const DATA: [usize; 8] = [1, 15, 16, 17, 31, 32, 33, DATA_MAX];
+/// A form that is none, edition 1 with the serial form, and editions that are none.
+const REFUSED: [Mode; 4] = [
+    Mode::new(3, 2),
+    Mode::new(1, 1),
+    Mode::new(0, 0),
+    Mode::new(2, 0),
+];
 
 pub fn command(file_requests: &str, file_answers: &str) -> Result<String, Failure> {
     let mut table = format!(
-        "form  length  blocks  last   side  data  nonce   t  runs  {:<32}\n",
+        "edition  form  length  blocks  last   side  data  nonce   t  runs  {:<32}\n",
         "tag"
     );
     let mut requests = Vec::new();
@@ -34,19 +42,24 @@ pub fn command(file_requests: &str, file_answers: &str) -> Result<String, Failur
     Ok(table)
 }
 
-/// The seams in both forms, and a form that is none, which is refused.
+/// The third edition in both forms, the first, and what is refused. In the third the nonces
+/// are the longest, which shares a byte with the tag length, and one byte more.
 fn sealings() -> Vec<Request> {
     let mut list = Vec::new();
-    for form in [0, 1] {
-        list.extend(seams().into_iter().map(|lengths| sealing(form, lengths)));
+    for (mode, nonces) in [
+        (THIRD_PARALLEL, &[15, 16][..]),
+        (THIRD_SERIAL, &[15, 16]),
+        (FIRST, &[1, 12, 15, 16]),
+    ] {
+        list.extend(seams(nonces).map(|lengths| sealing(mode, lengths)));
     }
-    list.push(sealing(2, USUAL));
+    list.extend(REFUSED.map(|mode| sealing(mode, USUAL)));
     list
 }
 
-/// Each seam of the message; the longest nonce, and one byte more, which is refused, at
-/// every tag length; no data; and each seam of the data.
-fn seams() -> Vec<Lengths> {
+/// Each seam of the message; these nonces at every tag length; no data; and each seam of the
+/// data.
+fn seams(nonces: &[usize]) -> impl Iterator<Item = Lengths> {
     let messages = MESSAGES.map(|message| Lengths { message, ..USUAL });
     let without_data = MESSAGES_WITHOUT_DATA.map(|message| Lengths {
         data: 0,
@@ -55,16 +68,15 @@ fn seams() -> Vec<Lengths> {
     });
     messages
         .into_iter()
-        .chain(longest_nonces())
+        .chain(at_every_tag(nonces))
         .chain(without_data)
         .chain(DATA.map(|data| Lengths { data, ..USUAL }))
-        .collect()
 }
 
-fn sealing(form: usize, lengths: Lengths) -> Request {
+fn sealing(mode: Mode, lengths: Lengths) -> Request {
     Request {
         kind: Kind::Seal,
-        form,
+        mode,
         key: Key::Raw(rules::key(lengths.key)),
         nonce: rules::nonce(lengths.nonce),
         data: rules::data(lengths.data),
@@ -98,8 +110,9 @@ fn line(sealing: &Request, tag: &str) -> String {
     let m = blocks.len();
     let full = blocks[m - 1].len() == BLOCK_BYTES;
     format!(
-        "{:>4}  {:>6}  {:>6}  {:<5}  {:<4}  {:>4}  {:>5}  {:>2}  {:>4}  {:<32}\n",
-        sealing.form,
+        "{:>7}  {:>4}  {:>6}  {:>6}  {:<5}  {:<4}  {:>4}  {:>5}  {:>2}  {:>4}  {:<32}\n",
+        sealing.mode.edition,
+        sealing.mode.form,
         sealing.body.len(),
         m,
         if full { "full" } else { "short" },

@@ -1,10 +1,9 @@
 //! Tests of the serial form, by hand from figure 3 of 000, and of the form that a call names.
 
 use crate::block::{double, pad, times_3_squared, times_7, xor, Block, ZERO};
-use crate::call::{open, seal};
 use crate::data_pass::{af_s, FirstMask};
-use crate::form::Form;
-use crate::key::Key;
+use crate::edition::{Edition::Third, Mode};
+use crate::form::Form::Serial;
 use crate::otr::{format, otr_e};
 use crate::rules;
 use crate::standin::stand_in;
@@ -68,7 +67,7 @@ fn the_tag_does_not_take_ta() {
 fn check_one_block(t: usize, a: &[u8], u: &Block) {
     let sealed = |m: &[u8]| {
         let (n, ciphered) = (rules::nonce(12), FirstMask::Ciphered);
-        otr_e(Form::Serial, &stand_in, ciphered, t, &n, a, m)
+        otr_e(Third(Serial), &stand_in, ciphered, t, &n, a, m)
     };
     let short = sealed(&[0x5a]);
     let te = stand_in(&xor(&times_3_squared(u), &pad(&[0x5a])));
@@ -79,35 +78,12 @@ fn check_one_block(t: usize, a: &[u8], u: &Block) {
     assert_eq!(full, (xor(&stand_in(u), &m).to_vec(), te[..t].to_vec()));
 }
 
-/// Wish 1 of 02: 8 is checked before 1, so that no other fault hides it.
+/// Wish 1 of 02: 8 is checked before 1, so that no other fault of the third edition hides it.
 #[test]
 fn other_forms_are_refused_with_8_and_the_output_kept() {
     for form in [2, 3, 255, 256, 257, 65_536, 99_999, usize::MAX] {
         for (key, k, t) in [(16, 12, 16), (17, 12, 16), (16, 16, 16), (17, 0, 3)] {
-            check_refused_and_kept(form, key, k, t, 8);
+            check_refused_and_kept(Mode::new(3, form), key, k, t, 8);
         }
     }
-}
-
-#[test]
-fn what_one_form_sealed_the_other_refuses() {
-    for form in [0, 1] {
-        for data in [0, 5, 16, 17] {
-            for len in [0, 1, 16, 17, 32, 33, 48] {
-                check_other_form(form, &rules::data(data), len);
-            }
-        }
-    }
-}
-
-fn check_other_form(form: usize, data: &[u8], len: usize) {
-    let key = Key::Raw(rules::key(16));
-    let (nonce, message) = (rules::nonce(12), rules::message(len));
-    let mut sealed = vec![0xa5; len + 16];
-    let answer = seal(form, &key, &nonce, data, &message, 16, &mut sealed);
-    assert_eq!((answer.number, answer.length), (0, len + 16));
-    let mut output = vec![0xa5; len + 3];
-    let answer = open(1 - form, &key, &nonce, data, &sealed, 16, &mut output);
-    assert_eq!((answer.number, answer.length), (7, 0));
-    assert_eq!(output, [vec![0; len], vec![0xa5; 3]].concat());
 }

@@ -3,8 +3,8 @@
 use crate::call::MESSAGE_MAX;
 use crate::console_sealer::ConsoleSealer;
 use crate::data_pass::FirstMask;
+use crate::edition::{Mode, THIRD_SERIAL};
 use crate::exchange::Exchange;
-use crate::form::Form;
 use crate::key::Key;
 use crate::otr::otr_e;
 use crate::parts;
@@ -20,7 +20,7 @@ use crate::tests::bytes;
 fn the_lines_of_wish_3() {
     let mut console = ConsoleSealer::default();
     let begin = "begin 1 02132435465768798a9bacbdcedff001 010e1b2835424f5c69768390 - 16\n";
-    let begun = console.begin(&sealing(1, 16, 0, 0));
+    let begun = console.begin(&sealing(THIRD_SERIAL, 16, 0, 0));
     assert_eq!([begun.request, begun.answer], [begin, "0 0 1 -\n"]);
     let fed = console.feed(&[], 0);
     assert_eq!([fed.request, fed.answer], ["feed - 0\n", "0 0 0 -\n"]);
@@ -90,7 +90,7 @@ impl InUse {
     fn begun(line: &Line) -> InUse {
         let sealing = Request {
             kind: Kind::Seal,
-            form: line.decimal(1),
+            mode: Mode::new(3, line.decimal(1)),
             key: Key::Raw(line.bytes(2)),
             nonce: line.bytes(3),
             data: line.bytes(4),
@@ -202,8 +202,8 @@ fn the_rows_joined_are_what_one_call_seals() {
             assert_eq!(joined.len(), given);
         }
         let (n, a, m) = (rules::nonce(k), rules::data(data), rules::message(message));
-        let form = Form::named(form).unwrap();
-        let (c, tag) = otr_e(form, &stand_in, FirstMask::Ciphered, t, &n, &a, &m);
+        let edition = Mode::new(3, form).checked().unwrap();
+        let (c, tag) = otr_e(edition, &stand_in, FirstMask::Ciphered, t, &n, &a, &m);
         assert_eq!(joined, [c, tag].concat(), "{row}");
         assert_eq!(runs, parallel_formula(data, message), "{row}");
     }

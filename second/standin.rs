@@ -2,7 +2,8 @@
 
 use crate::block::{Block, BLOCK_BYTES, ZERO};
 use crate::data_pass::FirstMask;
-use crate::form::Form;
+use crate::edition::Edition::{self, First, Third};
+use crate::form::Form::{Parallel, Serial};
 use crate::rows::Row;
 use crate::rules;
 
@@ -41,12 +42,12 @@ pub fn command_lent() -> String {
     lines(&rows_lent(), FirstMask::Lent(rules::lent_mask()))
 }
 
-/// `FORM MESSAGELEN DATALEN K T RUNS HEX` and the end of the line, for each row.
+/// `EDITION FORM MESSAGELEN DATALEN K T RUNS HEX` and the end of the line, for each row.
 fn lines(rows: &[Row], first_mask: FirstMask) -> String {
     rows.iter()
         .map(|row| {
             let rest = row.lengths_and_sealed(&stand_in, first_mask);
-            format!("{} {}", row.form_number(), rest)
+            format!("{} {}", row.edition.mode(), rest)
         })
         .collect()
 }
@@ -54,11 +55,11 @@ fn lines(rows: &[Row], first_mask: FirstMask) -> String {
 /// Without data, and with all that the first mask goes into.
 fn rows_lent() -> Vec<Row> {
     let mut list = Vec::new();
-    for form in [Form::Parallel, Form::Serial] {
-        list.extend(by_data(form, &DATA_LENT));
+    for edition in [Third(Parallel), Third(Serial), First] {
+        list.extend(by_data(edition, &DATA_LENT));
         for (k, t) in [(12, 16), (15, 15)] {
             list.push(Row {
-                form,
+                edition,
                 message: 33,
                 data: 33,
                 k,
@@ -71,7 +72,7 @@ fn rows_lent() -> Vec<Row> {
 
 /// With serial ADP the message pass depends on the data through U: its seams with data too.
 fn rows() -> Vec<Row> {
-    let (parallel, serial) = (Form::Parallel, Form::Serial);
+    let (parallel, serial) = (Third(Parallel), Third(Serial));
     [
         by_message(parallel, 0),
         by_data(parallel, &DATA),
@@ -80,15 +81,18 @@ fn rows() -> Vec<Row> {
         by_message(serial, 5),
         by_data(serial, &DATA),
         by_k_and_t(serial),
+        by_message(First, 0),
+        by_data(First, &DATA),
+        by_k_and_t(First),
     ]
     .into_iter()
     .flatten()
     .collect()
 }
 
-fn by_message(form: Form, data: usize) -> Vec<Row> {
+fn by_message(edition: Edition, data: usize) -> Vec<Row> {
     let row = |message| Row {
-        form,
+        edition,
         message,
         data,
         k: 12,
@@ -97,9 +101,9 @@ fn by_message(form: Form, data: usize) -> Vec<Row> {
     MESSAGES.map(row).into()
 }
 
-fn by_data(form: Form, lengths: &[usize]) -> Vec<Row> {
+fn by_data(edition: Edition, lengths: &[usize]) -> Vec<Row> {
     let row = |&data| Row {
-        form,
+        edition,
         message: 20,
         data,
         k: 12,
@@ -108,9 +112,9 @@ fn by_data(form: Form, lengths: &[usize]) -> Vec<Row> {
     lengths.iter().map(row).collect()
 }
 
-fn by_k_and_t(form: Form) -> Vec<Row> {
+fn by_k_and_t(edition: Edition) -> Vec<Row> {
     let row = |(k, t)| Row {
-        form,
+        edition,
         message: 33,
         data: 17,
         k,

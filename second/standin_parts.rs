@@ -2,6 +2,7 @@
 //! cipher in E's place.
 
 use crate::data_pass::FirstMask;
+use crate::edition::Edition::Third;
 use crate::form::Form::{self, Parallel, Serial};
 use crate::hex;
 use crate::otr_parts::OtrParts;
@@ -34,7 +35,7 @@ pub fn command() -> String {
 fn line((form, data, k, t, parts): Row) -> String {
     let (n, a) = (rules::nonce(k), rules::data(data));
     let (mut sealer, runs) = counted(&stand_in, |e| {
-        OtrParts::begin(form, e, FirstMask::Ciphered, t, &n, &a)
+        OtrParts::begin(Third(form), e, FirstMask::Ciphered, t, &n, &a)
     });
     let mut line = format!("{} {data} {k} {t} {runs}", form as usize);
     let message = rules::message(parts.iter().sum());

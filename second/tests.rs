@@ -5,13 +5,17 @@ use crate::bits::n2s;
 use crate::block::{double, pad, times_3_squared, times_7, Block, BLOCK_BYTES, ZERO};
 use crate::call::{open, seal};
 use crate::data_pass::FirstMask;
+use crate::edition::Edition::{self, First, Third};
+use crate::edition::{Mode, MODES};
 use crate::firmware;
-use crate::form::Form;
+use crate::form::Form::{Parallel, Serial};
 use crate::hex;
 use crate::key::Key;
 use crate::otr::{format, otr_d, otr_e};
 use crate::rules;
 use crate::standin::stand_in;
+
+pub const EDITIONS: [Edition; 3] = [Third(Parallel), Third(Serial), First];
 
 pub fn bytes(text: &str) -> Vec<u8> {
     hex::decode(text).unwrap()
@@ -123,22 +127,22 @@ fn format_of_1_to_14_bytes() {
 
 #[test]
 fn nonces_of_0_and_16_bytes_are_refused_and_the_output_kept() {
-    for form in [0, 1] {
+    for mode in MODES {
         for k in [0, 16] {
             for t in 4..=16 {
-                check_refused_and_kept(form, 16, k, t, 2);
+                check_refused_and_kept(mode, 16, k, t, 2);
             }
         }
     }
 }
 
 /// Sealing and opening 40 bytes with room enough.
-pub fn check_refused_and_kept(form: usize, key_bytes: usize, k: usize, t: usize, number: u8) {
+pub fn check_refused_and_kept(mode: Mode, key_bytes: usize, k: usize, t: usize, number: u8) {
     let (key, nonce) = (Key::Raw(rules::key(key_bytes)), rules::nonce(k));
     let (data, body) = (rules::data(5), rules::message(40));
     for call in [seal, open] {
         let mut output = vec![0xa5; 60];
-        let answer = call(form, &key, &nonce, &data, &body, t, &mut output);
+        let answer = call(mode, &key, &nonce, &data, &body, t, &mut output);
         assert_eq!((answer.number, answer.length), (number, 0));
         assert_eq!(output, [0xa5; 60]);
     }
@@ -146,23 +150,23 @@ pub fn check_refused_and_kept(form: usize, key_bytes: usize, k: usize, t: usize,
 
 #[test]
 fn a_nonce_of_15_bytes_seals_and_opens_at_every_t() {
-    for form in [0, 1] {
+    for mode in MODES {
         for t in 4..=16 {
             for len in [0, 1, 16, 17, 33] {
-                check_round_trip(form, t, len);
+                check_round_trip(mode, t, len);
             }
         }
     }
 }
 
-fn check_round_trip(form: usize, t: usize, len: usize) {
+fn check_round_trip(mode: Mode, t: usize, len: usize) {
     let key = Key::Raw(rules::key(32));
     let (nonce, data, message) = (rules::nonce(15), rules::data(17), rules::message(len));
     let mut sealed = vec![0xa5; len + t];
-    let answer = seal(form, &key, &nonce, &data, &message, t, &mut sealed);
+    let answer = seal(mode, &key, &nonce, &data, &message, t, &mut sealed);
     assert_eq!((answer.number, answer.length), (0, len + t));
     let mut output = vec![0xa5; len];
-    let answer = open(form, &key, &nonce, &data, &sealed, t, &mut output);
+    let answer = open(mode, &key, &nonce, &data, &sealed, t, &mut output);
     assert_eq!((answer.number, answer.length), (0, len));
     assert_eq!(output, message);
 }
@@ -170,13 +174,14 @@ fn check_round_trip(form: usize, t: usize, len: usize) {
 #[test]
 fn opening_undoes_sealing() {
     let (n, ciphered) = (rules::nonce(12), FirstMask::Ciphered);
-    for form in [Form::Parallel, Form::Serial] {
+    for edition in EDITIONS {
         for a in [rules::data(0), rules::data(17)] {
             for len in 0..200 {
                 let m = rules::message(len);
-                let (c, tag) = otr_e(form, &stand_in, ciphered, 16, &n, &a, &m);
+                let (c, tag) = otr_e(edition, &stand_in, ciphered, 16, &n, &a, &m);
                 assert_eq!((c.len(), tag.len()), (len, BLOCK_BYTES));
-                assert_eq!(otr_d(form, &stand_in, ciphered, &n, &a, &c, &tag), Some(m));
+                let opened = otr_d(edition, &stand_in, ciphered, &n, &a, &c, &tag);
+                assert_eq!(opened, Some(m));
             }
         }
     }
@@ -184,25 +189,25 @@ fn opening_undoes_sealing() {
 
 #[test]
 fn every_changed_bit_is_refused_and_the_output_zeroed() {
-    for form in [0, 1] {
+    for mode in MODES {
         for k in [14, 15] {
             for len in [0, 1, 16, 17, 32, 33, 48, 49] {
-                check_changed_bits(form, &rules::nonce(k), len);
+                check_changed_bits(mode, &rules::nonce(k), len);
             }
         }
     }
 }
 
-fn check_changed_bits(form: usize, nonce: &[u8], len: usize) {
+fn check_changed_bits(mode: Mode, nonce: &[u8], len: usize) {
     let key = Key::Raw(rules::key(24));
     let (data, message) = (rules::data(5), rules::message(len));
     let mut sealed = vec![0xa5; len + 12];
-    let answer = seal(form, &key, nonce, &data, &message, 12, &mut sealed);
+    let answer = seal(mode, &key, nonce, &data, &message, 12, &mut sealed);
     assert_eq!((answer.number, answer.length), (0, len + 12));
     for bit in 0..8 * sealed.len() {
         sealed[bit / 8] ^= 1 << (bit % 8);
         let mut output = vec![0xa5; len + 3];
-        let answer = open(form, &key, nonce, &data, &sealed, 12, &mut output);
+        let answer = open(mode, &key, nonce, &data, &sealed, 12, &mut output);
         assert_eq!((answer.number, answer.length), (7, 0));
         assert_eq!(output, [vec![0; len], vec![0xa5; 3]].concat());
         sealed[bit / 8] ^= 1 << (bit % 8);
@@ -216,21 +221,21 @@ fn empty_message_is_one_short_block() {
     let u = stand_in(&format(16, &n));
     let mut input = times_3_squared(&u);
     input[0] ^= 0x80;
-    let (c, tag) = otr_e(Form::Parallel, &stand_in, ciphered, 16, &n, &[], &[]);
+    let (c, tag) = otr_e(Third(Parallel), &stand_in, ciphered, 16, &n, &[], &[]);
     assert!(c.is_empty());
     assert_eq!(tag, stand_in(&input));
 }
 
 #[test]
 fn the_host_program_gets_every_seam_and_every_refusal() {
-    for form in [0, 1] {
-        let mut answers = [0; 9];
-        for request in firmware::requests(form) {
+    for mode in MODES {
+        let mut answers = [0; 11];
+        for request in firmware::requests(mode) {
             answers[usize::from(request.call().0.number)] += 1;
         }
         let keys_nonces_tags = 3 * 3 * 3;
         assert_eq!(answers[0], keys_nonces_tags * 6 * 11);
-        for refusal in [1, 2, 3, 4, 5, 6, 8] {
+        for refusal in [1, 2, 3, 4, 5, 6, 8, 10] {
             assert!(answers[refusal] > 0, "{refusal}");
         }
     }

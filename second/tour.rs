@@ -3,6 +3,7 @@
 
 use crate::call::DATA_MAX;
 use crate::console_sealer::ConsoleSealer;
+use crate::edition::{FIRST, THIRD_PARALLEL};
 use crate::exchange::Exchange;
 use crate::failure::Failure;
 use crate::files;
@@ -30,6 +31,7 @@ pub fn command(file_requests: &str, file_answers: &str) -> Result<String, Failur
         &longest,
     );
     serial(&mut tour, &sealing);
+    first_edition(&mut tour, &sealing);
     prepared(&mut tour, &sealing);
     parts(&mut tour, &sealing);
     refusals(&mut tour, &sealing, &opening);
@@ -42,7 +44,7 @@ pub fn command(file_requests: &str, file_answers: &str) -> Result<String, Failur
 fn sealing() -> Request {
     Request {
         kind: Kind::Seal,
-        form: 0,
+        mode: THIRD_PARALLEL,
         key: Key::Raw(rules::key(KEY_BYTES)),
         nonce: rules::nonce(12),
         data: b"mount 2".to_vec(),
@@ -80,17 +82,64 @@ fn empty_messages(tour: &mut Tour, sealing: &Request) {
 }
 
 fn serial(tour: &mut Tour, sealing: &Request) {
-    let sealing = Request {
-        form: 1,
-        ..sealing.clone()
-    };
+    let mut sealing = sealing.clone();
+    sealing.mode.form = 1;
     tour.call("0: sealed in the serial form.", &sealing);
     let opening = opening(&sealing);
     tour.call("0: opened.", &opening);
     tour.changed(
         "7: what one form sealed the other refuses.",
         &opening,
-        |request| request.form = 0,
+        |request| request.mode.form = 0,
+    );
+}
+
+/// Wish 7 of 02.
+fn first_edition(tour: &mut Tour, sealing: &Request) {
+    let sealing = Request {
+        mode: FIRST,
+        ..sealing.clone()
+    };
+    tour.call(
+        "0: sealed by the first edition, for as many runs as the third takes.",
+        &sealing,
+    );
+    let opening = opening(&sealing);
+    tour.call("0: opened.", &opening);
+    tour.changed(
+        "7: what one edition sealed the other refuses.",
+        &opening,
+        |request| request.mode.edition = 3,
+    );
+    let shorter = Request {
+        t: 4,
+        ..sealing.clone()
+    };
+    tour.call(
+        "0: sealed with a tag of 4 bytes: the same ciphertext, and the first 4 bytes of the tag of 16, since the first edition does not take in the tag length.",
+        &shorter,
+    );
+    editions_and_forms_that_are_none(tour, &sealing);
+}
+
+fn editions_and_forms_that_are_none(tour: &mut Tour, sealing: &Request) {
+    tour.changed(
+        "8: the first edition with the serial form: it has the parallel one alone.",
+        sealing,
+        |request| request.mode.form = 1,
+    );
+    tour.changed(
+        "10: an edition that is neither the first (1) nor the third (3).",
+        sealing,
+        |request| request.mode.edition = 2,
+    );
+    tour.changed(
+        "10 before 8: such an edition, and a form that is none.",
+        sealing,
+        |request| {
+            request.mode.edition = 2;
+            request.mode.form = 2;
+        },
     );
 }
 
@@ -106,6 +155,11 @@ fn prepared(tour: &mut Tour, sealing: &Request) {
         &sealing,
     );
     tour.call("0: opened.", &opening(&sealing));
+    tour.changed(
+        "0: sealed by the first edition under the same record.",
+        &sealing,
+        |request| request.mode = FIRST,
+    );
     tour.call(
         "0: a record whose first mask is not the cipher of the zero block: another tag.",
         &sealing.under_record(|record| record.zero = rules::lent_mask()),
@@ -183,13 +237,13 @@ fn refusals(tour: &mut Tour, sealing: &Request, opening: &Request) {
     tour.changed(
         "8: a form that is neither parallel (0) nor serial (1).",
         sealing,
-        |request| request.form = 2,
+        |request| request.mode.form = 2,
     );
     tour.changed(
         "8 before 1: such a form, and a key of 17 bytes.",
         sealing,
         |request| {
-            request.form = 2;
+            request.mode.form = 2;
             request.key = Key::Raw(rules::key(17));
         },
     );
@@ -219,11 +273,16 @@ fn refusals(tour: &mut Tour, sealing: &Request, opening: &Request) {
 }
 
 fn bad_lines(tour: &mut Tour) {
-    tour.bad("A field too few.", "seal 0 00 01 02 03 16");
-    tour.bad("Two spaces.", "seal 0 00 01  02 03 16 4");
-    tour.bad("Half a byte.", "seal 0 0 01 02 03 16 4");
-    tour.bad("More room than there is.", "seal 0 00 01 02 03 16 20481");
-    tour.bad("A form of six digits.", "seal 000000 00 01 02 03 16 4");
+    tour.bad("A field too few.", "seal 3 0 00 01 02 03 16");
+    tour.bad("No edition.", "seal 0 00 01 02 03 16 4");
+    tour.bad("Two spaces.", "seal 3 0 00 01  02 03 16 4");
+    tour.bad("Half a byte.", "seal 3 0 0 01 02 03 16 4");
+    tour.bad("More room than there is.", "seal 3 0 00 01 02 03 16 20481");
+    tour.bad(
+        "An edition of six digits.",
+        "seal 000003 0 00 01 02 03 16 4",
+    );
+    tour.bad("A form of six digits.", "seal 3 000000 00 01 02 03 16 4");
     tour.bad("Round keys of 239 bytes.", &under_zeros(239, 16));
     tour.bad("A first mask of 15 bytes.", &under_zeros(240, 15));
     tour.bad("An end that names no room.", "end");
@@ -237,7 +296,7 @@ fn bad_lines(tour: &mut Tour) {
 /// A sealing under a record of zeros, with so many bytes of round keys and of first mask.
 fn under_zeros(round_keys: usize, zero: usize) -> String {
     let [words, zero] = [round_keys, zero].map(|len| hex::encode(&vec![0; len]));
-    format!("seal-with 0 10 {words} {zero} 01 02 03 16 17")
+    format!("seal-with 3 0 10 {words} {zero} 01 02 03 16 17")
 }
 
 #[derive(Default)]

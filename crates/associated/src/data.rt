@@ -1,4 +1,4 @@
-// What the associated data pass does in either form.
+// What the associated data pass does whatever edition and form are named.
 ghost use mathlib.Core.Path.{_≡_};
 ghost use Prim.Native.Nat.{_-_, _*_, _/_, _≤_};
 ghost use lib.Dec.{ltb};
@@ -8,7 +8,7 @@ ghost use Rattle.aes.specs.Cipher.{cipher};
 ghost use Rattle.mode.specs.Data.{DataPass, ta as taOf, taInputs, firstQ, qInputs};
 use pairs::Ran;
 
-// The first Q, E of the zero block, which is ciphered only where it is needed.
+// The first mask, E of the zero block, which is ciphered only where it is needed.
 pub fn first_q(table: &[u32; 1024], w: &[u8; 240], nr: usize, needed: bool) -> Ran
     requires { ⌜ now table ≡ joined ⌝ }
     requires { ⌜ (10 ≤ nr) × (nr ≤ 14) ⌝ }

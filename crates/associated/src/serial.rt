@@ -5,8 +5,7 @@ ghost use lib.Dec.{ltb};
 ghost use lib.ListN.{length};
 ghost use Rattle.tables.specs.Joined.{joined};
 ghost use Rattle.aes.specs.Cipher.{cipher};
-ghost use Rattle.mode.specs.Form.{serial};
-ghost use Rattle.mode.specs.Data.{chain as chainOf, chainInputs, chainFinal, dataPass, ta as taOf, taInputs};
+ghost use Rattle.mode.specs.Data.{chain as chainOf, chainInputs, chainFinal, serialPass, ta as taOf, taInputs};
 use crate::data;
 use pairs::Ran;
 
@@ -47,8 +46,8 @@ fn chain_mask(q: [u8; 16], n: usize) -> [u8; 16]
 pub fn ta(table: &[u32; 1024], w: &[u8; 240], nr: usize, q: [u8; 16], a: &[u8]) -> Ran
     requires { ⌜ now table ≡ joined ⌝ }
     requires { ⌜ (10 ≤ nr) × (nr ≤ 14) ⌝ }
-    ensures { λ r. ⌜ r .block ≡ taOf (cipher nr (now (w .entry))) (dataPass (cipher nr (now (w .entry))) q serial) (now (a .entry)) ⌝ }
-    ensures { λ r. ⌜ r .runs ≡ length (taInputs (cipher nr (now (w .entry))) (dataPass (cipher nr (now (w .entry))) q serial) (now (a .entry))) ⌝ }
+    ensures { λ r. ⌜ r .block ≡ taOf (cipher nr (now (w .entry))) (serialPass (cipher nr (now (w .entry))) q) (now (a .entry)) ⌝ }
+    ensures { λ r. ⌜ r .runs ≡ length (taInputs (cipher nr (now (w .entry))) (serialPass (cipher nr (now (w .entry))) q) (now (a .entry))) ⌝ }
 {
     let n = data::before_last(a.len());
     let front = chain(table, w, nr, a, n);

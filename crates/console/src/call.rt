@@ -107,6 +107,7 @@ fn call(line: &[u8], request: Request, buffer: &mut [u8]) -> link::Answer
     let nonce = bytes_of(line, strings.nonce);
     let data = bytes_of(line, strings.data);
     let message = bytes_of(line, strings.message);
+    let edition = request.edition;
     let form = request.form;
     let tag = request.tag;
     let key = strings.key;
@@ -114,17 +115,17 @@ fn call(line: &[u8], request: Request, buffer: &mut [u8]) -> link::Answer
         Key::Raw(part) => {
             let raw = bytes_of(line, part);
             if request.opens {
-                link::open(form, raw, nonce, data, message, tag, buffer)
+                link::open(edition, form, raw, nonce, data, message, tag, buffer)
             } else {
-                link::seal(form, raw, nonce, data, message, tag, buffer)
+                link::seal(edition, form, raw, nonce, data, message, tag, buffer)
             }
         }
         Key::Prepared(place) => {
             let made = prepared(line, place);
             if request.opens {
-                link::open_with(form, made, nonce, data, message, tag, buffer)
+                link::open_with(edition, form, made, nonce, data, message, tag, buffer)
             } else {
-                link::seal_with(form, made, nonce, data, message, tag, buffer)
+                link::seal_with(edition, form, made, nonce, data, message, tag, buffer)
             }
         }
     }

@@ -1,25 +1,26 @@
 // The bench console: whoever types or pipes in requests, one a line, sees exactly what a box would answer.
 //
-//     seal FORM KEY NONCE DATA MESSAGE TAG ROOM
-//     open FORM KEY NONCE DATA SEALED TAG ROOM
+//     seal EDITION FORM KEY NONCE DATA MESSAGE TAG ROOM
+//     open EDITION FORM KEY NONCE DATA SEALED TAG ROOM
 //     prepare KEY
-//     seal-with FORM ROUNDS WORDS ZERO NONCE DATA MESSAGE TAG ROOM
-//     open-with FORM ROUNDS WORDS ZERO NONCE DATA SEALED TAG ROOM
+//     seal-with EDITION FORM ROUNDS WORDS ZERO NONCE DATA MESSAGE TAG ROOM
+//     open-with EDITION FORM ROUNDS WORDS ZERO NONCE DATA SEALED TAG ROOM
 //     begin FORM KEY NONCE DATA TAG
 //     feed PART ROOM
 //     end ROOM
 //
-// One space stands between two fields. FORM, ROUNDS, TAG and ROOM are decimal, up to 65535, and ROOM up to 20480; form 0 is the
-// parallel one, 1 the serial one. The other fields are hexadecimal, two digits of either case a byte, or `-` for no bytes. ROUNDS, WORDS
-// and ZERO are a prepared key: its round count, the 240 bytes of its round keys, and the 16 of E(zero).
+// One space stands between two fields. EDITION, FORM, ROUNDS, TAG and ROOM are decimal, up to 65535, and ROOM up to 20480; edition 1 is
+// v1, 3 is v3.1; form 0 is the parallel one, 1 the serial one, which edition 3 alone has. The other fields are hexadecimal, two digits
+// of either case a byte, or `-` for no bytes. ROUNDS, WORDS and ZERO are a prepared key: its round count, the 240 bytes of its round
+// keys, and the 16 of E(zero).
 //
 // A sealing or an opening has an output buffer of ROOM bytes, all a5 before the call, and its answer is the line
 // `NUMBER LENGTH RUNS OUTPUT`: RUNS says how many times the cipher ran, and OUTPUT is the whole buffer after the call, in hexadecimal.
 // The answer to `prepare` is `NUMBER RUNS ROUNDS WORDS ZERO`.
 //
-// The last three requests seal a message that comes in parts. The console keeps one sealer from line to line, which counts as ended
-// before the first `begin`: each `begin` replaces it by the one that it hands back, also where it is refused, and `feed` and `end` go to
-// it. No other line changes it. The three are answered as a sealing is; `begin` has no output buffer, and its OUTPUT is `-`.
+// The last three requests seal a message that comes in parts, in edition 3. The console keeps one sealer from line to line, which counts
+// as ended before the first `begin`: each `begin` replaces it by the one that it hands back, also where it is refused, and `feed` and
+// `end` go to it. No other line changes it. The three are answered as a sealing is; `begin` has no output buffer, and its OUTPUT is `-`.
 //
 // A line has up to 65000 bytes, and ends at LF, CR LF or the input's end. One that is empty or begins with `#` is passed over. Any
 // other line that is no request, and any longer line, is answered by `bad line N`, where N counts all lines from 1.

@@ -44,6 +44,7 @@ pub struct Strings {
 // A request to seal or to open.
 pub struct Request {
     pub opens: bool,
+    pub edition: usize,
     pub form: usize,
     pub strings: Strings,
     pub tag: usize,
@@ -65,7 +66,7 @@ pub struct Feeding {
     pub room: usize,
 }
 
-// FORM and KEY, with which a request under a raw key starts, and where the next field begins.
+// FORM and KEY of a request under a raw key, and where the next field begins.
 enum Start {
     Under(usize, Part, usize),
     Bad,
@@ -160,10 +161,13 @@ fn parse_prepare(line: &mut [u8], from: usize) -> Line
 fn parse_raw(line: &mut [u8], from: usize, opens: bool) -> Line
     ensures { λ r. ⌜ Good (length (now (line .exit))) r ⌝ }
 {
-    let Start::Under(form, key, next) = parse_start(line, from) else {
+    let Field::Number(edition, next) = fields::number(line, from) else {
         return Line::Bad;
     };
-    parse_strings(line, next, opens, form, Key::Raw(key))
+    let Start::Under(form, key, next) = parse_start(line, next) else {
+        return Line::Bad;
+    };
+    parse_strings(line, next, opens, edition, form, Key::Raw(key))
 }
 
 // The fields of a request to begin a sealing.
@@ -191,7 +195,7 @@ fn parse_begin(line: &mut [u8], from: usize) -> Line
     })
 }
 
-// The first two fields of a request under a raw key.
+// FORM and KEY, which a request under a raw key has side by side, whether or not it names an edition before them.
 fn parse_start(line: &mut [u8], from: usize) -> Start
     ensures { λ r. ⌜ Started (length (now (line .entry))) r ⌝ }
 {
@@ -208,7 +212,10 @@ fn parse_start(line: &mut [u8], from: usize) -> Start
 fn parse_prepared(line: &mut [u8], from: usize, opens: bool) -> Line
     ensures { λ r. ⌜ Good (length (now (line .exit))) r ⌝ }
 {
-    let Field::Number(form, next) = fields::number(line, from) else {
+    let Field::Number(edition, next) = fields::number(line, from) else {
+        return Line::Bad;
+    };
+    let Field::Number(form, next) = fields::number(line, next) else {
         return Line::Bad;
     };
     let Field::Number(rounds, next) = fields::number(line, next) else {
@@ -225,11 +232,18 @@ fn parse_prepared(line: &mut [u8], from: usize, opens: bool) -> Line
         words,
         zero,
     };
-    parse_strings(line, next, opens, form, Key::Prepared(place))
+    parse_strings(line, next, opens, edition, form, Key::Prepared(place))
 }
 
 // The fields behind the key, from `from` to the line's end: the other strings, and what follows them.
-fn parse_strings(line: &mut [u8], from: usize, opens: bool, form: usize, key: Key) -> Line
+fn parse_strings(
+    line: &mut [u8],
+    from: usize,
+    opens: bool,
+    edition: usize,
+    form: usize,
+    key: Key,
+) -> Line
     requires { ⌜ Held (length (now line)) key ⌝ }
     ensures { λ r. ⌜ Good (length (now (line .exit))) r ⌝ }
 {
@@ -245,11 +259,18 @@ fn parse_strings(line: &mut [u8], from: usize, opens: bool, form: usize, key: Ke
         data,
         message,
     };
-    parse_numbers(line, next, opens, form, strings)
+    parse_numbers(line, next, opens, edition, form, strings)
 }
 
 // The last two fields, from `from` to the line's end, and with them the request.
-fn parse_numbers(line: &[u8], from: usize, opens: bool, form: usize, strings: Strings) -> Line
+fn parse_numbers(
+    line: &[u8],
+    from: usize,
+    opens: bool,
+    edition: usize,
+    form: usize,
+    strings: Strings,
+) -> Line
     requires { ⌜ Within (length (now line)) strings ⌝ }
     ensures { λ r. ⌜ Good (length (now (line .entry))) r ⌝ }
 {
@@ -261,6 +282,7 @@ fn parse_numbers(line: &[u8], from: usize, opens: bool, form: usize, strings: St
     };
     Line::Request(Request {
         opens,
+        edition,
         form,
         strings,
         tag,

@@ -9,7 +9,8 @@ use native.Mathlib.Omega.{arith}
 use lib.ListN.{length, length-append}
 use Rattle.lists.specs.Zeros.{zeros}
 use Rattle.aes.specs.Expansion.{aes}
-use Rattle.mode.specs.Form.{Form, parallel, serial, formOf}
+use Rattle.mode.specs.Form.{parallel, serial}
+use Rattle.mode.specs.Edition.{Edition, v1, v3, editionOf}
 use Rattle.mode.specs.Data.{qInputs, withData}
 use Rattle.mode.specs.Sealing.{fromInputs, otrInputs}
 use Rattle.mode.specs.Opening.{accepted, refused}
@@ -44,96 +45,104 @@ by-open (stop x) k seal s out r after never not7 p (inl z) = absurd (never x ref
 by-open (stop x) k seal s out r after never not7 p (inr z) = absurd (not7 (sym (ap numberOf (p .0)) ∙ z))
 
 -- whatever seals, once the checks have passed
-module _ (form : ℕ) (known : Bool) (nonce ad : List ℕ) (t : ℕ) (out : List ℕ) (r : Answer) (after : List ℕ) (k : ℕ) where
-  seal-counts : (m bytes : List ℕ) → SealsBy (callCheck form known (length nonce) t (length ad) (sealNext t (length m) (length out))) k bytes out r after → Counts k r
+module _ (edition form : ℕ) (known : Bool) (nonce ad : List ℕ) (t : ℕ) (out : List ℕ) (r : Answer) (after : List ℕ) (k : ℕ) where
+  seal-counts : (m bytes : List ℕ) → SealsBy (callCheck edition form known (length nonce) t (length ad) (sealNext t (length m) (length out))) k bytes out r after → Counts k r
   seal-counts m bytes p = record { ran = ran; refused = no-runs r }
     where
       Fits : Type 0
-      Fits = SealFits form known (length nonce) t (length ad) (length m) (length out)
+      Fits = SealFits edition form known (length nonce) t (length ad) (length m) (length out)
 
       ran : (numberOf r ≡ 0) ⊎ (numberOf r ≡ 7) → runsOf r ≡ k
       ran (inl z) =
-          let checks = callCheck form known (length nonce) t (length ad) (sealNext t (length m) (length out)) in
-          let verdict = seal-verdict form known (length nonce) t (length ad) (length m) (length out) in
+          let checks = callCheck edition form known (length nonce) t (length ad) (sealNext t (length m) (length out)) in
+          let verdict = seal-verdict edition form known (length nonce) t (length ad) (length m) (length out) in
           by-seal checks k bytes out r after (stop-is Fits (length m + t) checks verdict) p z
-      ran (inr h) = absurd (answers-not-7 form known nonce ad m t out k bytes r after p h)
+      ran (inr h) = absurd (answers-not-7 edition form known nonce ad m t out k bytes r after p h)
 
-  open-counts : (s : List ℕ) (seal : List ℕ → List ℕ) → OpensBy (callCheck form known (length nonce) t (length ad) (openNext t (length s) (length out))) k seal s out r after
+  open-counts : (s : List ℕ) (seal : List ℕ → List ℕ) → OpensBy (callCheck edition form known (length nonce) t (length ad) (openNext t (length s) (length out))) k seal s out r after
       → Counts k r
   open-counts s seal p =
       record {
-        ran = by-open checks k seal s out r after (stop-is Fits (length s - t) checks verdict) (open-not-7 form known nonce ad s t out) p;
+        ran = by-open checks k seal s out r after (stop-is Fits (length s - t) checks verdict) (open-not-7 edition form known nonce ad s t out) p;
         refused = no-runs r;
       }
     where
       Fits : Type 0
-      Fits = OpenFits form known (length nonce) t (length ad) (length s) (length out)
+      Fits = OpenFits edition form known (length nonce) t (length ad) (length s) (length out)
 
       checks : Check
-      checks = callCheck form known (length nonce) t (length ad) (openNext t (length s) (length out))
+      checks = callCheck edition form known (length nonce) t (length ad) (openNext t (length s) (length out))
 
       verdict : Verdict Fits (length s - t) checks
-      verdict = open-verdict form known (length nonce) t (length ad) (length s) (length out)
+      verdict = open-verdict edition form known (length nonce) t (length ad) (length s) (length out)
 
 -- ---- under a raw key
-module _ (form : ℕ) (key nonce ad : List ℕ) (t : ℕ) (out : List ℕ) (r : Answer) (after : List ℕ) where
-  pub sealing-counts : (m : List ℕ) → Seals form key nonce ad m t out r after → Counts (length (otrInputs (aes key) (formOf form) nonce ad t m)) r
+module _ (edition form : ℕ) (key nonce ad : List ℕ) (t : ℕ) (out : List ℕ) (r : Answer) (after : List ℕ) where
+  pub sealing-counts : (m : List ℕ) → Seals edition form key nonce ad m t out r after → Counts (length (otrInputs (aes key) (editionOf edition form) nonce ad t m)) r
   unfolding Seals
-  sealing-counts m = seal-counts form (keyKnown key) nonce ad t out r after (sealRuns form key nonce ad t m) m (sealing form key nonce ad t m)
+  sealing-counts m = seal-counts edition form (keyKnown key) nonce ad t out r after (sealRuns edition form key nonce ad t m) m (sealing edition form key nonce ad t m)
 
-  pub opening-counts : (s : List ℕ) → Opens form key nonce ad s t out r after → Counts (length (foundInputs (aes key) (formOf form) nonce ad t s)) r
+  pub opening-counts : (s : List ℕ) → Opens edition form key nonce ad s t out r after → Counts (length (foundInputs (aes key) (editionOf edition form) nonce ad t s)) r
   unfolding Opens
-  opening-counts s = open-counts form (keyKnown key) nonce ad t out r after (openRuns form key nonce ad t s) s (sealing form key nonce ad t)
+  opening-counts s = open-counts edition form (keyKnown key) nonce ad t out r after (openRuns edition form key nonce ad t s) s (sealing edition form key nonce ad t)
 
 -- ---- under a prepared key
-module _ (form : ℕ) (p : Prepared) (nonce ad : List ℕ) (t : ℕ) (out : List ℕ) (r : Answer) (after : List ℕ) where
-  pub sealing-with-counts : (m : List ℕ) → SealsWith form p nonce ad m t out r after → Counts (length (fromInputs (cipherOf p) (p .zero) (formOf form) nonce ad t m)) r
+module _ (edition form : ℕ) (p : Prepared) (nonce ad : List ℕ) (t : ℕ) (out : List ℕ) (r : Answer) (after : List ℕ) where
+  pub sealing-with-counts : (m : List ℕ) → SealsWith edition form p nonce ad m t out r after → Counts (length (fromInputs (cipherOf p) (p .zero) (editionOf edition form) nonce ad t m)) r
   unfolding SealsWith
-  sealing-with-counts m = seal-counts form (roundsKnown p) nonce ad t out r after (sealRunsWith form p nonce ad t m) m (sealingWith form p nonce ad t m)
+  sealing-with-counts m = seal-counts edition form (roundsKnown p) nonce ad t out r after (sealRunsWith edition form p nonce ad t m) m (sealingWith edition form p nonce ad t m)
 
-  pub opening-with-counts : (s : List ℕ) → OpensWith form p nonce ad s t out r after → Counts (length (foundFromInputs (cipherOf p) (p .zero) (formOf form) nonce ad t s)) r
+  pub opening-with-counts : (s : List ℕ) → OpensWith edition form p nonce ad s t out r after → Counts (length (foundFromInputs (cipherOf p) (p .zero) (editionOf edition form) nonce ad t s)) r
   unfolding OpensWith
-  opening-with-counts s = open-counts form (roundsKnown p) nonce ad t out r after (openRunsWith form p nonce ad t s) s (sealingWith form p nonce ad t)
+  opening-with-counts s = open-counts edition form (roundsKnown p) nonce ad t out r after (openRunsWith edition form p nonce ad t s) s (sealingWith edition form p nonce ad t)
 
 -- ---- the formulas, by lengths alone
-formula-is : (f : Form) (m ad : ℕ) → min 1 ad + (2 + (m + 15) / 16 + (ad + 15) / 16) ≡ formula f m ad
-formula-is parallel m zero = omega arith
-formula-is parallel m (suc b) = omega arith
-formula-is serial m zero = omega arith
-formula-is serial m (suc b) = omega arith
+formula-is : (f : Edition) (m ad : ℕ) → min 1 ad + (2 + (m + 15) / 16 + (ad + 15) / 16) ≡ formula f m ad
+formula-is v1 m zero = omega arith
+formula-is v1 m (suc b) = omega arith
+formula-is (v3 parallel) m zero = omega arith
+formula-is (v3 parallel) m (suc b) = omega arith
+formula-is (v3 serial) m zero = omega arith
+formula-is (v3 serial) m (suc b) = omega arith
 
--- the two forms run the cipher equally often
-pub forms-alike : (m ad : ℕ) → formula serial m ad ≡ formula parallel m ad
-forms-alike m ad = sym (formula-is serial m ad) ∙ formula-is parallel m ad
+-- whatever is named runs the cipher equally often: the two forms, and the two editions
+pub named-alike : (f g : Edition) (m ad : ℕ) → formula f m ad ≡ formula g m ad
+named-alike f g m ad = sym (formula-is f m ad) ∙ formula-is g m ad
+
+pub forms-alike : (m ad : ℕ) → formula (v3 serial) m ad ≡ formula (v3 parallel) m ad
+forms-alike = named-alike (v3 serial) (v3 parallel)
+
+pub editions-alike : (m ad : ℕ) → formula v1 m ad ≡ formula (v3 parallel) m ad
+editions-alike = named-alike v1 (v3 parallel)
 
 -- a prepared key loses the one for the zero block
-pub one-less : (f : Form) (m ad : ℕ) → formula f m ad ≡ min 1 ad + formulaWith m ad
+pub one-less : (f : Edition) (m ad : ℕ) → formula f m ad ≡ min 1 ad + formulaWith m ad
 one-less f m ad = sym (formula-is f m ad)
 
-module _ (form : ℕ) (key nonce ad : List ℕ) (t : ℕ) (out : List ℕ) (r : Answer) (after : List ℕ) where
-  -- the runs for the first Q and those with it at hand
+module _ (edition form : ℕ) (key nonce ad : List ℕ) (t : ℕ) (out : List ℕ) (r : Answer) (after : List ℕ) where
+  -- the runs for the first mask and those with it at hand
   with-zero : (others : List (List ℕ)) (m : ℕ) → length others ≡ 2 + (m + 15) / 16 + (length ad + 15) / 16
-      → length (qInputs (withData ad) ++ others) ≡ formula (formOf form) m (length ad)
+      → length (qInputs (withData ad) ++ others) ≡ formula (editionOf edition form) m (length ad)
   with-zero others m h =
-      length-append (qInputs (withData ad)) others ∙ ap₂ _+_ (length-qInputs ad) h ∙ formula-is (formOf form) m (length ad)
+      length-append (qInputs (withData ad)) others ∙ ap₂ _+_ (length-qInputs ad) h ∙ formula-is (editionOf edition form) m (length ad)
 
-  pub sealing-formula : (m : List ℕ) → Seals form key nonce ad m t out r after → numberOf r ≡ 0 → runsOf r ≡ formula (formOf form) (length m) (length ad)
+  pub sealing-formula : (m : List ℕ) → Seals edition form key nonce ad m t out r after → numberOf r ≡ 0 → runsOf r ≡ formula (editionOf edition form) (length m) (length ad)
   sealing-formula m p z =
-      sealing-counts form key nonce ad t out r after m p .ran (inl z)
-      ∙ with-zero _ (length m) (length-fromInputs (aes key) (aes key (zeros 16)) (formOf form) nonce ad t m)
+      sealing-counts edition form key nonce ad t out r after m p .ran (inl z)
+      ∙ with-zero _ (length m) (length-fromInputs (aes key) (aes key (zeros 16)) (editionOf edition form) nonce ad t m)
 
-  pub opening-formula : (s : List ℕ) → Opens form key nonce ad s t out r after → (numberOf r ≡ 0) ⊎ (numberOf r ≡ 7)
-      → runsOf r ≡ formula (formOf form) (length s - t) (length ad)
+  pub opening-formula : (s : List ℕ) → Opens edition form key nonce ad s t out r after → (numberOf r ≡ 0) ⊎ (numberOf r ≡ 7)
+      → runsOf r ≡ formula (editionOf edition form) (length s - t) (length ad)
   opening-formula s p z =
-      opening-counts form key nonce ad t out r after s p .ran z
-      ∙ with-zero _ (length s - t) (length-foundFromInputs (aes key) (aes key (zeros 16)) (formOf form) nonce ad t s)
+      opening-counts edition form key nonce ad t out r after s p .ran z
+      ∙ with-zero _ (length s - t) (length-foundFromInputs (aes key) (aes key (zeros 16)) (editionOf edition form) nonce ad t s)
 
-module _ (form : ℕ) (p : Prepared) (nonce ad : List ℕ) (t : ℕ) (out : List ℕ) (r : Answer) (after : List ℕ) where
-  pub sealing-with-formula : (m : List ℕ) → SealsWith form p nonce ad m t out r after → numberOf r ≡ 0 → runsOf r ≡ formulaWith (length m) (length ad)
+module _ (edition form : ℕ) (p : Prepared) (nonce ad : List ℕ) (t : ℕ) (out : List ℕ) (r : Answer) (after : List ℕ) where
+  pub sealing-with-formula : (m : List ℕ) → SealsWith edition form p nonce ad m t out r after → numberOf r ≡ 0 → runsOf r ≡ formulaWith (length m) (length ad)
   sealing-with-formula m h z =
-      sealing-with-counts form p nonce ad t out r after m h .ran (inl z) ∙ length-fromInputs (cipherOf p) (p .zero) (formOf form) nonce ad t m
+      sealing-with-counts edition form p nonce ad t out r after m h .ran (inl z) ∙ length-fromInputs (cipherOf p) (p .zero) (editionOf edition form) nonce ad t m
 
-  pub opening-with-formula : (s : List ℕ) → OpensWith form p nonce ad s t out r after → (numberOf r ≡ 0) ⊎ (numberOf r ≡ 7)
+  pub opening-with-formula : (s : List ℕ) → OpensWith edition form p nonce ad s t out r after → (numberOf r ≡ 0) ⊎ (numberOf r ≡ 7)
       → runsOf r ≡ formulaWith (length s - t) (length ad)
   opening-with-formula s h z =
-      opening-with-counts form p nonce ad t out r after s h .ran z ∙ length-foundFromInputs (cipherOf p) (p .zero) (formOf form) nonce ad t s
+      opening-with-counts edition form p nonce ad t out r after s h .ran z ∙ length-foundFromInputs (cipherOf p) (p .zero) (editionOf edition form) nonce ad t s

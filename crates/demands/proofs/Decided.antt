@@ -7,11 +7,11 @@ use Prim.Native.Nat.{ℕ}
 use lib.ListN.{length}
 use Rattle.lists.specs.Zeros.{zeros}
 use Rattle.aes.specs.Expansion.{aes}
-use Rattle.mode.specs.Form.{formOf}
+use Rattle.mode.specs.Edition.{editionOf}
 use Rattle.mode.specs.Masks.{IsCipher}
 use Rattle.mode.specs.Sealing.{dataTag, otrFrom}
 use Rattle.mode.specs.Opening.{Opened, Allowed}
-use Rattle.mode.proofs.Third.{otr-one-answer}
+use Rattle.mode.proofs.Otr.{otr-one-answer}
 use Rattle.passes.specs.Shown.{shown}
 use Rattle.pairs.proofs.Cipher.{is-cipher, length-ta}
 use Rattle.link.specs.Checks.{Check, pass, stop, knownKey, knownRounds, callCheck, openNext, sealCheck, sealWithCheck}
@@ -27,17 +27,17 @@ by-seal : (c : Check) (k : ℕ) (bytes out : List ℕ) (r r′ : Answer) (a a′
 by-seal (pass n) k bytes out r r′ a a′ p q = (p .0 ∙ sym (q .0), p .1 ∙ sym (q .1))
 by-seal (stop x) k bytes out r r′ a a′ p q = (p .0 ∙ sym (q .0), p .1 ∙ sym (q .1))
 
-pub seals-decided : (form : ℕ) (key nonce ad m : List ℕ) (t : ℕ) (out : List ℕ) (r r′ : Answer) (a a′ : List ℕ)
-    → Seals form key nonce ad m t out r a → Seals form key nonce ad m t out r′ a′ → (r ≡ r′) × (a ≡ a′)
+pub seals-decided : (edition form : ℕ) (key nonce ad m : List ℕ) (t : ℕ) (out : List ℕ) (r r′ : Answer) (a a′ : List ℕ)
+    → Seals edition form key nonce ad m t out r a → Seals edition form key nonce ad m t out r′ a′ → (r ≡ r′) × (a ≡ a′)
 unfolding Seals
-seals-decided form key nonce ad m t out =
-    by-seal (sealCheck form (length key) (length nonce) t (length ad) (length m) (length out)) (sealRuns form key nonce ad t m) (sealing form key nonce ad t m) out
+seals-decided edition form key nonce ad m t out =
+    by-seal (sealCheck edition form (length key) (length nonce) t (length ad) (length m) (length out)) (sealRuns edition form key nonce ad t m) (sealing edition form key nonce ad t m) out
 
-pub seals-with-decided : (form : ℕ) (p : Prepared) (nonce ad m : List ℕ) (t : ℕ) (out : List ℕ) (r r′ : Answer) (a a′ : List ℕ)
-    → SealsWith form p nonce ad m t out r a → SealsWith form p nonce ad m t out r′ a′ → (r ≡ r′) × (a ≡ a′)
+pub seals-with-decided : (edition form : ℕ) (p : Prepared) (nonce ad m : List ℕ) (t : ℕ) (out : List ℕ) (r r′ : Answer) (a a′ : List ℕ)
+    → SealsWith edition form p nonce ad m t out r a → SealsWith edition form p nonce ad m t out r′ a′ → (r ≡ r′) × (a ≡ a′)
 unfolding SealsWith
-seals-with-decided form p nonce ad m t out =
-    by-seal (sealWithCheck form (p .rounds) (length nonce) t (length ad) (length m) (length out)) (sealRunsWith form p nonce ad t m) (sealingWith form p nonce ad t m) out
+seals-with-decided edition form p nonce ad m t out =
+    by-seal (sealWithCheck edition form (p .rounds) (length nonce) t (length ad) (length m) (length out)) (sealRunsWith edition form p nonce ad t m) (sealingWith edition form p nonce ad t m) out
 
 -- ---- opening: where sealing allows one answer alone
 by-open : (c : Check) (k : ℕ) (seal : List ℕ → List ℕ) (s out : List ℕ) → ((n : ℕ) → c ≡ pass n → (o p : Opened) → Allowed seal s o → Allowed seal s p → o ≡ p)
@@ -48,33 +48,33 @@ by-open (pass n) k seal s out one r r′ a a′ p q =
 by-open (stop x) k seal s out one r r′ a a′ p q = (p .0 ∙ sym (q .0), p .1 ∙ sym (q .1))
 
 -- as it does with any cipher, and any first mask with which TA has 16 bytes, once the checks have passed
-module _ (E : List ℕ → List ℕ) (e : IsCipher E) (q : List ℕ) (form : ℕ) (known : Bool) (nonce ad s : List ℕ) (t : ℕ) (out : List ℕ)
-    (h : length (dataTag E q (formOf form) ad) ≡ 16) where
+module _ (E : List ℕ → List ℕ) (e : IsCipher E) (q : List ℕ) (edition form : ℕ) (known : Bool) (nonce ad s : List ℕ) (t : ℕ) (out : List ℕ)
+    (h : length (dataTag E q (editionOf edition form) ad) ≡ 16) where
   checks : Check
-  checks = callCheck form known (length nonce) t (length ad) (openNext t (length s) (length out))
+  checks = callCheck edition form known (length nonce) t (length ad) (openNext t (length s) (length out))
 
-  one : (n : ℕ) → checks ≡ pass n → (o p : Opened) → Allowed (otrFrom E q (formOf form) nonce ad t) s o → Allowed (otrFrom E q (formOf form) nonce ad t) s p → o ≡ p
+  one : (n : ℕ) → checks ≡ pass n → (o p : Opened) → Allowed (otrFrom E q (editionOf edition form) nonce ad t) s o → Allowed (otrFrom E q (editionOf edition form) nonce ad t) s p → o ≡ p
   unfolding checks
   one n is =
-      let f = sure (open-verdict form known (length nonce) t (length ad) (length s) (length out)) n is in
-      otr-one-answer E e q (formOf form) nonce ad t h (f .0 .nonces .1) (f .0 .tags .1) s
+      let f = sure (open-verdict edition form known (length nonce) t (length ad) (length s) (length out)) n is in
+      otr-one-answer E e q (editionOf edition form) nonce ad t h (f .0 .nonces .1) (f .0 .tags .1) s
 
   opening-decided : (k : ℕ) (r r′ : Answer) (a a′ : List ℕ)
-      → OpensBy (callCheck form known (length nonce) t (length ad) (openNext t (length s) (length out))) k (otrFrom E q (formOf form) nonce ad t) s out r a
-      → OpensBy (callCheck form known (length nonce) t (length ad) (openNext t (length s) (length out))) k (otrFrom E q (formOf form) nonce ad t) s out r′ a′
+      → OpensBy (callCheck edition form known (length nonce) t (length ad) (openNext t (length s) (length out))) k (otrFrom E q (editionOf edition form) nonce ad t) s out r a
+      → OpensBy (callCheck edition form known (length nonce) t (length ad) (openNext t (length s) (length out))) k (otrFrom E q (editionOf edition form) nonce ad t) s out r′ a′
       → (r ≡ r′) × (a ≡ a′)
   unfolding checks
-  opening-decided k = by-open checks k (otrFrom E q (formOf form) nonce ad t) s out one
+  opening-decided k = by-open checks k (otrFrom E q (editionOf edition form) nonce ad t) s out one
 
-pub opens-decided : (form : ℕ) (key nonce ad s : List ℕ) (t : ℕ) (out : List ℕ) (r r′ : Answer) (a a′ : List ℕ)
-    → Opens form key nonce ad s t out r a → Opens form key nonce ad s t out r′ a′ → (r ≡ r′) × (a ≡ a′)
+pub opens-decided : (edition form : ℕ) (key nonce ad s : List ℕ) (t : ℕ) (out : List ℕ) (r r′ : Answer) (a a′ : List ℕ)
+    → Opens edition form key nonce ad s t out r a → Opens edition form key nonce ad s t out r′ a′ → (r ≡ r′) × (a ≡ a′)
 unfolding Opens
-opens-decided form key nonce ad s t out =
-    opening-decided (aes key) (aes-cipher key) (aes key (zeros 16)) form (knownKey (length key)) nonce ad s t out (aes-ta key (formOf form) ad) (openRuns form key nonce ad t s)
+opens-decided edition form key nonce ad s t out =
+    opening-decided (aes key) (aes-cipher key) (aes key (zeros 16)) edition form (knownKey (length key)) nonce ad s t out (aes-ta key (editionOf edition form) ad) (openRuns edition form key nonce ad t s)
 
-pub opens-with-decided : (form : ℕ) (p : Prepared) (nonce ad s : List ℕ) (t : ℕ) (out : List ℕ) (r r′ : Answer) (a a′ : List ℕ)
-    → OpensWith form p nonce ad s t out r a → OpensWith form p nonce ad s t out r′ a′ → (r ≡ r′) × (a ≡ a′)
+pub opens-with-decided : (edition form : ℕ) (p : Prepared) (nonce ad s : List ℕ) (t : ℕ) (out : List ℕ) (r r′ : Answer) (a a′ : List ℕ)
+    → OpensWith edition form p nonce ad s t out r a → OpensWith edition form p nonce ad s t out r′ a′ → (r ≡ r′) × (a ≡ a′)
 unfolding OpensWith
-opens-with-decided form p nonce ad s t out =
-    opening-decided (cipherOf p) (is-cipher (p .rounds) (p .words)) (p .zero) form (knownRounds (p .rounds)) nonce ad s t out
-    (length-ta (p .rounds) (p .words) (p .zero) (formOf form) ad) (openRunsWith form p nonce ad t s)
+opens-with-decided edition form p nonce ad s t out =
+    opening-decided (cipherOf p) (is-cipher (p .rounds) (p .words)) (p .zero) edition form (knownRounds (p .rounds)) nonce ad s t out
+    (length-ta (p .rounds) (p .words) (p .zero) (editionOf edition form) ad) (openRunsWith edition form p nonce ad t s)

@@ -1,6 +1,6 @@
--- Demand 1: whatever bytes and lengths come in, a call ends with done or one of the eight numbered refusals, in the fixed order, 8
--- first. Refusals 8 and 1 to 6 change no buffer. Refusal 7 sets the first bytes of the output, as many as the ciphertext has, to zero and
--- touches nothing behind them. Under a raw key and under a prepared one. Assumes nothing.
+-- Demand 1: whatever bytes and lengths come in, a call ends with done or one of the nine numbered refusals, in the fixed order, 10 and 8
+-- first. Refusals 10, 8 and 1 to 6 change no buffer. Refusal 7 sets the first bytes of the output, as many as the ciphertext has, to zero
+-- and touches nothing behind them. Under a raw key and under a prepared one. Assumes nothing.
 use mathlib.Core.Path.{_≡_, refl, sym, ap, subst, _∙_}
 use mathlib.Core.Bool.{Bool, true, false}
 use mathlib.Core.Logic.{_⊎_, inl, inr}
@@ -13,27 +13,28 @@ use Rattle.lists.specs.Lay.{lay}
 use Rattle.lists.specs.Zeros.{zeros}
 use Rattle.mode.specs.Opening.{accepted, refused}
 use Rattle.link.specs.Answers.{numberOf, lengthOf}
-use Rattle.link.specs.Checks.{Check, pass, stop, from-to, unless, callCheck, sealNext, openNext, asAnswer}
+use Rattle.link.specs.Checks.{Check, pass, stop, from-to, unless, knownEdition, lastForm, callCheck, sealNext, openNext, asAnswer}
 use Rattle.link.specs.Promises.{sealing, sealRuns, openRuns, SealsBy, Seals, OpensBy, Opens, sealingWith, sealRunsWith, openRunsWith, SealsWith, OpensWith}
 use Rattle.link.specs.declared.answer.Answer.{Answer}
-use Rattle.link.specs.declared.answer.Answer.the-variants.{Key, Nonce, Tag, Data, Length, Room, Form}
+use Rattle.link.specs.declared.answer.Answer.the-variants.{Key, Nonce, Tag, Data, Length, Room, Form, Edition}
 use Rattle.link.specs.declared.prepared.Prepared.{Prepared}
 use Rattle.link.proofs.Answers.{Answered, done, forged, refusal, answered}
 use Rattle.link.proofs.Verdicts.{Verdict, passes, stops, pass-or-stop, OpenFits, open-verdict}
 use Rattle.demands.specs.Calls.{firstFailing, keyKnown, roundsKnown, sealChecks, openChecks}
 
 -- the checks as a list and as an answer agree in the number
-number-of : (a b c d e f g : Bool) (n : ℕ)
-    → numberOf (asAnswer (unless a Form (unless b Key (unless c Nonce (unless d Tag (unless e Data (unless f Length (unless g Room (pass n)))))))))
-    ≡ firstFailing ((8, a) ∷ (1, b) ∷ (2, c) ∷ (3, d) ∷ (4, e) ∷ (5, f) ∷ (6, g) ∷ [])
-number-of true true true true true true true n = refl
-number-of true true true true true true false n = refl
-number-of true true true true true false g n = refl
-number-of true true true true false f g n = refl
-number-of true true true false e f g n = refl
-number-of true true false d e f g n = refl
-number-of true false c d e f g n = refl
-number-of false b c d e f g n = refl
+number-of : (v a b c d e f g : Bool) (n : ℕ)
+    → numberOf (asAnswer (unless v Edition (unless a Form (unless b Key (unless c Nonce (unless d Tag (unless e Data (unless f Length (unless g Room (pass n))))))))))
+    ≡ firstFailing ((10, v) ∷ (8, a) ∷ (1, b) ∷ (2, c) ∷ (3, d) ∷ (4, e) ∷ (5, f) ∷ (6, g) ∷ [])
+number-of true true true true true true true true n = refl
+number-of true true true true true true true false n = refl
+number-of true true true true true true false g n = refl
+number-of true true true true true false f g n = refl
+number-of true true true true false e f g n = refl
+number-of true true true false d e f g n = refl
+number-of true true false c d e f g n = refl
+number-of true false b c d e f g n = refl
+number-of false a b c d e f g n = refl
 
 -- the first failing check is one of those listed: where none of them has the number k, it has not
 abbrev NoneIs : ℕ → List (ℕ × Bool) → Type 0
@@ -45,10 +46,10 @@ not-first k [] h e = h (sym e)
 not-first k ((n, true) ∷ checks) h e = not-first k checks (h .1) e
 not-first k ((n, false) ∷ checks) h e = h .0 e
 
-never-7 : (a b c d e f g : Bool) → firstFailing ((8, a) ∷ (1, b) ∷ (2, c) ∷ (3, d) ∷ (4, e) ∷ (5, f) ∷ (6, g) ∷ []) ≡ 7 → ⊥
-never-7 a b c d e f g =
-    not-first 7 ((8, a) ∷ (1, b) ∷ (2, c) ∷ (3, d) ∷ (4, e) ∷ (5, f) ∷ (6, g) ∷ [])
-    (λ z. omega arith, (λ z. omega arith, (λ z. omega arith, (λ z. omega arith, (λ z. omega arith, (λ z. omega arith, (λ z. omega arith, (λ z. omega arith))))))))
+never-7 : (v a b c d e f g : Bool) → firstFailing ((10, v) ∷ (8, a) ∷ (1, b) ∷ (2, c) ∷ (3, d) ∷ (4, e) ∷ (5, f) ∷ (6, g) ∷ []) ≡ 7 → ⊥
+never-7 v a b c d e f g =
+    not-first 7 ((10, v) ∷ (8, a) ∷ (1, b) ∷ (2, c) ∷ (3, d) ∷ (4, e) ∷ (5, f) ∷ (6, g) ∷ [])
+    (λ z. omega arith, (λ z. omega arith, (λ z. omega arith, (λ z. omega arith, (λ z. omega arith, (λ z. omega arith, (λ z. omega arith, (λ z. omega arith, (λ z. omega arith)))))))))
 
 -- a refusal has length 0
 refusal-length : (r : Answer) → (numberOf r ≡ 0 → ⊥) → lengthOf r ≡ 0
@@ -66,41 +67,41 @@ by-seal (pass n) k bytes out r after p = (ap numberOf (p .0), λ z. absurd (z (a
 by-seal (stop x) k bytes out r after p = (ap numberOf (p .0), λ z. (refusal-length r z, p .1))
 
 -- whether the key is known is all that the checks take of it
-module _ (form : ℕ) (known : Bool) (nonce ad m : List ℕ) (t : ℕ) (out : List ℕ) where
-  seal-number : numberOf (asAnswer (callCheck form known (length nonce) t (length ad) (sealNext t (length m) (length out)))) ≡ firstFailing (sealChecks form known nonce ad m t out)
+module _ (edition form : ℕ) (known : Bool) (nonce ad m : List ℕ) (t : ℕ) (out : List ℕ) where
+  seal-number : numberOf (asAnswer (callCheck edition form known (length nonce) t (length ad) (sealNext t (length m) (length out)))) ≡ firstFailing (sealChecks edition form known nonce ad m t out)
   unfolding callCheck
   seal-number =
-      number-of (leb form 1) known (from-to 1 15 (length nonce)) (from-to 4 16 t) (leb (length ad) 4096) (leb (length m) 16384)
+      number-of (knownEdition edition) (leb form (lastForm edition)) known (from-to 1 15 (length nonce)) (from-to 4 16 t) (leb (length ad) 4096) (leb (length m) 16384)
       (leb (length m + t) (length out)) (length m + t)
 
   -- they do not stop at 7
-  pub seal-not-7 : numberOf (asAnswer (callCheck form known (length nonce) t (length ad) (sealNext t (length m) (length out)))) ≡ 7 → ⊥
+  pub seal-not-7 : numberOf (asAnswer (callCheck edition form known (length nonce) t (length ad) (sealNext t (length m) (length out)))) ≡ 7 → ⊥
   seal-not-7 h =
-      never-7 (leb form 1) known (from-to 1 15 (length nonce)) (from-to 4 16 t) (leb (length ad) 4096) (leb (length m) 16384)
+      never-7 (knownEdition edition) (leb form (lastForm edition)) known (from-to 1 15 (length nonce)) (from-to 4 16 t) (leb (length ad) 4096) (leb (length m) 16384)
       (leb (length m + t) (length out)) (sym seal-number ∙ h)
 
   module _ (k : ℕ) (bytes : List ℕ) (r : Answer) (after : List ℕ)
-      (p : SealsBy (callCheck form known (length nonce) t (length ad) (sealNext t (length m) (length out))) k bytes out r after) where
-    answers-seal : (numberOf r ≡ firstFailing (sealChecks form known nonce ad m t out)) × ((numberOf r ≡ 0 → ⊥) → (lengthOf r ≡ 0) × (after ≡ out))
+      (p : SealsBy (callCheck edition form known (length nonce) t (length ad) (sealNext t (length m) (length out))) k bytes out r after) where
+    answers-seal : (numberOf r ≡ firstFailing (sealChecks edition form known nonce ad m t out)) × ((numberOf r ≡ 0 → ⊥) → (lengthOf r ≡ 0) × (after ≡ out))
     answers-seal =
-        let q = by-seal (callCheck form known (length nonce) t (length ad) (sealNext t (length m) (length out))) k bytes out r after p in
+        let q = by-seal (callCheck edition form known (length nonce) t (length ad) (sealNext t (length m) (length out))) k bytes out r after p in
         (q .0 ∙ seal-number, q .1)
 
     -- sealing does not answer 7
     pub answers-not-7 : numberOf r ≡ 7 → ⊥
     answers-not-7 h = seal-not-7 (seal-number ∙ sym (answers-seal .0) ∙ h)
 
-pub sealing-answers : (form : ℕ) (key nonce ad m : List ℕ) (t : ℕ) (out : List ℕ) (r : Answer) (after : List ℕ) → Seals form key nonce ad m t out r after
-    → (numberOf r ≡ firstFailing (sealChecks form (keyKnown key) nonce ad m t out)) × ((numberOf r ≡ 0 → ⊥) → (lengthOf r ≡ 0) × (after ≡ out))
+pub sealing-answers : (edition form : ℕ) (key nonce ad m : List ℕ) (t : ℕ) (out : List ℕ) (r : Answer) (after : List ℕ) → Seals edition form key nonce ad m t out r after
+    → (numberOf r ≡ firstFailing (sealChecks edition form (keyKnown key) nonce ad m t out)) × ((numberOf r ≡ 0 → ⊥) → (lengthOf r ≡ 0) × (after ≡ out))
 unfolding Seals
-sealing-answers form key nonce ad m t out r after p =
-    answers-seal form (keyKnown key) nonce ad m t out (sealRuns form key nonce ad t m) (sealing form key nonce ad t m) r after p
+sealing-answers edition form key nonce ad m t out r after p =
+    answers-seal edition form (keyKnown key) nonce ad m t out (sealRuns edition form key nonce ad t m) (sealing edition form key nonce ad t m) r after p
 
-pub sealing-with-answers : (form : ℕ) (p : Prepared) (nonce ad m : List ℕ) (t : ℕ) (out : List ℕ) (r : Answer) (after : List ℕ) → SealsWith form p nonce ad m t out r after
-    → (numberOf r ≡ firstFailing (sealChecks form (roundsKnown p) nonce ad m t out)) × ((numberOf r ≡ 0 → ⊥) → (lengthOf r ≡ 0) × (after ≡ out))
+pub sealing-with-answers : (edition form : ℕ) (p : Prepared) (nonce ad m : List ℕ) (t : ℕ) (out : List ℕ) (r : Answer) (after : List ℕ) → SealsWith edition form p nonce ad m t out r after
+    → (numberOf r ≡ firstFailing (sealChecks edition form (roundsKnown p) nonce ad m t out)) × ((numberOf r ≡ 0 → ⊥) → (lengthOf r ≡ 0) × (after ≡ out))
 unfolding SealsWith
-sealing-with-answers form p nonce ad m t out r after h =
-    answers-seal form (roundsKnown p) nonce ad m t out (sealRunsWith form p nonce ad t m) (sealingWith form p nonce ad t m) r after h
+sealing-with-answers edition form p nonce ad m t out r after h =
+    answers-seal edition form (roundsKnown p) nonce ad m t out (sealRunsWith edition form p nonce ad t m) (sealingWith edition form p nonce ad t m) r after h
 
 -- ---- opening
 -- what an opening comes back with, where i is the number of the first failing check and n that of message bytes
@@ -157,42 +158,42 @@ module _ (P : Type 0) (n : ℕ) (c : Check) (v : Verdict P n c) where
           z (ap numberOf yx ∙ k)
 
 -- the checks of opening
-module _ (form : ℕ) (known : Bool) (nonce ad s : List ℕ) (t : ℕ) (out : List ℕ) where
-  open-number : numberOf (asAnswer (callCheck form known (length nonce) t (length ad) (openNext t (length s) (length out)))) ≡ firstFailing (openChecks form known nonce ad s t out)
+module _ (edition form : ℕ) (known : Bool) (nonce ad s : List ℕ) (t : ℕ) (out : List ℕ) where
+  open-number : numberOf (asAnswer (callCheck edition form known (length nonce) t (length ad) (openNext t (length s) (length out)))) ≡ firstFailing (openChecks edition form known nonce ad s t out)
   unfolding callCheck
   open-number =
-      number-of (leb form 1) known (from-to 1 15 (length nonce)) (from-to 4 16 t) (leb (length ad) 4096) (from-to t (16384 + t) (length s))
+      number-of (knownEdition edition) (leb form (lastForm edition)) known (from-to 1 15 (length nonce)) (from-to 4 16 t) (leb (length ad) 4096) (from-to t (16384 + t) (length s))
       (leb (length s - t) (length out)) (length s - t)
 
-  pub open-not-7 : numberOf (asAnswer (callCheck form known (length nonce) t (length ad) (openNext t (length s) (length out)))) ≡ 7 → ⊥
+  pub open-not-7 : numberOf (asAnswer (callCheck edition form known (length nonce) t (length ad) (openNext t (length s) (length out)))) ≡ 7 → ⊥
   open-not-7 h =
-      never-7 (leb form 1) known (from-to 1 15 (length nonce)) (from-to 4 16 t) (leb (length ad) 4096) (from-to t (16384 + t) (length s))
+      never-7 (knownEdition edition) (leb form (lastForm edition)) known (from-to 1 15 (length nonce)) (from-to 4 16 t) (leb (length ad) 4096) (from-to t (16384 + t) (length s))
       (leb (length s - t) (length out)) (sym open-number ∙ h)
 
   answers-open : (k : ℕ) (seal : List ℕ → List ℕ) (r : Answer) (after : List ℕ)
-      → OpensBy (callCheck form known (length nonce) t (length ad) (openNext t (length s) (length out))) k seal s out r after
-      → Answers (firstFailing (openChecks form known nonce ad s t out)) (length s - t) out r after
+      → OpensBy (callCheck edition form known (length nonce) t (length ad) (openNext t (length s) (length out))) k seal s out r after
+      → Answers (firstFailing (openChecks edition form known nonce ad s t out)) (length s - t) out r after
   answers-open k seal r after p =
       subst (λ (i : ℕ). Answers i (length s - t) out r after) open-number
       (by-open checks (length s - t) k seal s out r after open-not-7 (pass-is Fits (length s - t) checks verdict) (stop-is Fits (length s - t) checks verdict) p)
     where
       checks : Check
-      checks = callCheck form known (length nonce) t (length ad) (openNext t (length s) (length out))
+      checks = callCheck edition form known (length nonce) t (length ad) (openNext t (length s) (length out))
 
       Fits : Type 0
-      Fits = OpenFits form known (length nonce) t (length ad) (length s) (length out)
+      Fits = OpenFits edition form known (length nonce) t (length ad) (length s) (length out)
 
       verdict : Verdict Fits (length s - t) checks
-      verdict = open-verdict form known (length nonce) t (length ad) (length s) (length out)
+      verdict = open-verdict edition form known (length nonce) t (length ad) (length s) (length out)
 
-pub opening-answers : (form : ℕ) (key nonce ad s : List ℕ) (t : ℕ) (out : List ℕ) (r : Answer) (after : List ℕ) → Opens form key nonce ad s t out r after
-    → Answers (firstFailing (openChecks form (keyKnown key) nonce ad s t out)) (length s - t) out r after
+pub opening-answers : (edition form : ℕ) (key nonce ad s : List ℕ) (t : ℕ) (out : List ℕ) (r : Answer) (after : List ℕ) → Opens edition form key nonce ad s t out r after
+    → Answers (firstFailing (openChecks edition form (keyKnown key) nonce ad s t out)) (length s - t) out r after
 unfolding Opens
-opening-answers form key nonce ad s t out r after p =
-    answers-open form (keyKnown key) nonce ad s t out (openRuns form key nonce ad t s) (sealing form key nonce ad t) r after p
+opening-answers edition form key nonce ad s t out r after p =
+    answers-open edition form (keyKnown key) nonce ad s t out (openRuns edition form key nonce ad t s) (sealing edition form key nonce ad t) r after p
 
-pub opening-with-answers : (form : ℕ) (p : Prepared) (nonce ad s : List ℕ) (t : ℕ) (out : List ℕ) (r : Answer) (after : List ℕ) → OpensWith form p nonce ad s t out r after
-    → Answers (firstFailing (openChecks form (roundsKnown p) nonce ad s t out)) (length s - t) out r after
+pub opening-with-answers : (edition form : ℕ) (p : Prepared) (nonce ad s : List ℕ) (t : ℕ) (out : List ℕ) (r : Answer) (after : List ℕ) → OpensWith edition form p nonce ad s t out r after
+    → Answers (firstFailing (openChecks edition form (roundsKnown p) nonce ad s t out)) (length s - t) out r after
 unfolding OpensWith
-opening-with-answers form p nonce ad s t out r after h =
-    answers-open form (roundsKnown p) nonce ad s t out (openRunsWith form p nonce ad t s) (sealingWith form p nonce ad t) r after h
+opening-with-answers edition form p nonce ad s t out r after h =
+    answers-open edition form (roundsKnown p) nonce ad s t out (openRunsWith edition form p nonce ad t s) (sealingWith edition form p nonce ad t) r after h

@@ -1,7 +1,7 @@
 -- The calls from C (document 02, wish 2), whose answer is the number alone: their promises decide, the whole answer follows from the
--- number, and the wrong programs are ruled out as before. Assumes nothing.
+-- number, and what is ruled out by number and buffer stays ruled out. Assumes nothing.
 use mathlib.Core.Path.{_≡_, sym, ap, subst, _∙_}
-use mathlib.Core.List.{List, []}
+use mathlib.Core.List.{List}
 use Prim.Native.Nat.{ℕ, _+_, _-_}
 use native.Mathlib.Omega.{arith}
 use lib.ListN.{length}
@@ -14,10 +14,7 @@ use Rattle.link.proofs.Answers.{stands-for}
 use Rattle.link.proofs.Verdicts.{Verdict, passes, stops, seal-verdict, open-verdict}
 use Rattle.firmware.specs.Numbered.{Numbered}
 use Rattle.demands.proofs.Decided.{seals-decided, opens-decided}
-use Rattle.demands.proofs.Demand1.{sealing-answers, opening-answers}
 use Rattle.demands.proofs.Count.{Counts, sealing-counts, opening-counts}
-use Rattle.demands.proofs.Named.{key, nonce, one}
-use Rattle.demands.proofs.Wrong.{room, small, s, refuses-sealing, refuses-opening}
 
 -- ---- any promise P, with the number in the answer's place
 module _ (P : Answer → List ℕ → Type 0) where
@@ -61,67 +58,29 @@ module _ {Q : Type 0} {k : ℕ} (c : Check) (v : Verdict Q k c) (r : Answer) (a 
       go (stops x y e) = absurd (y (sym (ap numberOf (subst (λ (d : Check). OpensBy d j seal s out r a) e p .0)) ∙ z))
 
 -- ---- the two calls
-module _ (form : ℕ) (key nonce ad body : List ℕ) (t : ℕ) (out : List ℕ) where
+module _ (edition form : ℕ) (key nonce ad body : List ℕ) (t : ℕ) (out : List ℕ) where
   pub seal-decided : (n n′ : ℕ) (a a′ : List ℕ)
-      → Numbered (Seals form key nonce ad body t out) n a → Numbered (Seals form key nonce ad body t out) n′ a′ → (n ≡ n′) × (a ≡ a′)
-  seal-decided = numbered-decided (Seals form key nonce ad body t out) (seals-decided form key nonce ad body t out)
+      → Numbered (Seals edition form key nonce ad body t out) n a → Numbered (Seals edition form key nonce ad body t out) n′ a′ → (n ≡ n′) × (a ≡ a′)
+  seal-decided = numbered-decided (Seals edition form key nonce ad body t out) (seals-decided edition form key nonce ad body t out)
 
   pub open-decided : (n n′ : ℕ) (a a′ : List ℕ)
-      → Numbered (Opens form key nonce ad body t out) n a → Numbered (Opens form key nonce ad body t out) n′ a′ → (n ≡ n′) × (a ≡ a′)
-  open-decided = numbered-decided (Opens form key nonce ad body t out) (opens-decided form key nonce ad body t out)
+      → Numbered (Opens edition form key nonce ad body t out) n a → Numbered (Opens edition form key nonce ad body t out) n′ a′ → (n ≡ n′) × (a ≡ a′)
+  open-decided = numbered-decided (Opens edition form key nonce ad body t out) (opens-decided edition form key nonce ad body t out)
 
-  pub seal-answer : (n : ℕ) (a : List ℕ) → Numbered (Seals form key nonce ad body t out) n a
-      → Seals form key nonce ad body t out (answerOf n (length body + t) (sealRuns form key nonce ad t body)) a
+  pub seal-answer : (n : ℕ) (a : List ℕ) → Numbered (Seals edition form key nonce ad body t out) n a
+      → Seals edition form key nonce ad body t out (answerOf n (length body + t) (sealRuns edition form key nonce ad t body)) a
   unfolding Seals
   seal-answer =
-      from-number (Seals form key nonce ad body t out) (length body + t) (sealRuns form key nonce ad t body)
-      (λ r a. seal-long (sealCheck form (length key) (length nonce) t (length ad) (length body) (length out))
-      (seal-verdict form (knownKey (length key)) (length nonce) t (length ad) (length body) (length out)) r a (sealRuns form key nonce ad t body) (sealing form key nonce ad t body) out)
-      (λ r a. sealing-counts form key nonce ad t out r a body)
+      from-number (Seals edition form key nonce ad body t out) (length body + t) (sealRuns edition form key nonce ad t body)
+      (λ r a. seal-long (sealCheck edition form (length key) (length nonce) t (length ad) (length body) (length out))
+      (seal-verdict edition form (knownKey (length key)) (length nonce) t (length ad) (length body) (length out)) r a (sealRuns edition form key nonce ad t body) (sealing edition form key nonce ad t body) out)
+      (λ r a. sealing-counts edition form key nonce ad t out r a body)
 
-  pub open-answer : (n : ℕ) (a : List ℕ) → Numbered (Opens form key nonce ad body t out) n a
-      → Opens form key nonce ad body t out (answerOf n (length body - t) (openRuns form key nonce ad t body)) a
+  pub open-answer : (n : ℕ) (a : List ℕ) → Numbered (Opens edition form key nonce ad body t out) n a
+      → Opens edition form key nonce ad body t out (answerOf n (length body - t) (openRuns edition form key nonce ad t body)) a
   unfolding Opens
   open-answer =
-      from-number (Opens form key nonce ad body t out) (length body - t) (openRuns form key nonce ad t body)
-      (λ r a. open-long (openCheck form (length key) (length nonce) t (length ad) (length body) (length out))
-      (open-verdict form (knownKey (length key)) (length nonce) t (length ad) (length body) (length out)) r a (openRuns form key nonce ad t body) (sealing form key nonce ad t) body out)
-      (λ r a. opening-counts form key nonce ad t out r a body)
-
--- ---- wrong programs that the number brings, at the named inputs of `Wrong` in the parallel form, where any number but 0 is wrong
-not-sealed : (n : ℕ) (a : List ℕ) → (n ≡ 0 → ⊥) → Numbered (Seals 0 key nonce [] (one 0) 16 room) n a → ⊥
-not-sealed = ruled-out (Seals 0 key nonce [] (one 0) 16 room) (λ n a. n ≡ 0 → ⊥) (refuses-sealing 0 (omega arith))
-
-not-opened : (n : ℕ) (a : List ℕ) → (n ≡ 0 → ⊥) → Numbered (Opens 0 key nonce [] (s 0 0) 16 small) n a → ⊥
-not-opened = ruled-out (Opens 0 key nonce [] (s 0 0) 16 small) (λ n a. n ≡ 0 → ⊥) (refuses-opening 0 (omega arith))
-
--- gives back how many bytes it wrote
-pub seals-length : (a : List ℕ) → Numbered (Seals 0 key nonce [] (one 0) 16 room) 17 a → ⊥
-seals-length a = not-sealed 17 a (λ z. omega arith)
-
-pub opens-length : (a : List ℕ) → Numbered (Opens 0 key nonce [] (s 0 0) 16 small) 1 a → ⊥
-opens-length a = not-opened 1 a (λ z. omega arith)
-
--- exchanges form and tag length: what the promise allows for form 16 and a tag of 0, it does not for form 0 and a tag of 16
-pub seals-exchanged : (n : ℕ) (a : List ℕ)
-    → Numbered (Seals 16 key nonce [] (one 0) 0 room) n a → Numbered (Seals 0 key nonce [] (one 0) 16 room) n a → ⊥
-seals-exchanged n a (r, is, p) =
-    let eight : numberOf r ≡ 8 = sealing-answers 16 key nonce [] (one 0) 0 room r a p .0 in
-    not-sealed n a (λ z. omega arith)
-
-pub opens-exchanged : (n : ℕ) (a : List ℕ)
-    → Numbered (Opens 16 key nonce [] (s 0 0) 0 small) n a → Numbered (Opens 0 key nonce [] (s 0 0) 16 small) n a → ⊥
-opens-exchanged n a (r, is, p) =
-    let eight : numberOf r ≡ 8 = opening-answers 16 key nonce [] (s 0 0) 0 small r a p .stopped (λ z. omega arith) .0 in
-    not-opened n a (λ z. omega arith)
-
--- keeps three bits of the number, so that 8 is done
-pub seals-8-as-0 : (a : List ℕ) → Numbered (Seals 2 key nonce [] (one 0) 16 room) 0 a → ⊥
-seals-8-as-0 a (r, is, p) =
-    let eight : numberOf r ≡ 8 = sealing-answers 2 key nonce [] (one 0) 16 room r a p .0 in
-    omega arith
-
-pub opens-8-as-0 : (a : List ℕ) → Numbered (Opens 2 key nonce [] (s 0 0) 16 small) 0 a → ⊥
-opens-8-as-0 a (r, is, p) =
-    let eight : numberOf r ≡ 8 = opening-answers 2 key nonce [] (s 0 0) 16 small r a p .stopped (λ z. omega arith) .0 in
-    omega arith
+      from-number (Opens edition form key nonce ad body t out) (length body - t) (openRuns edition form key nonce ad t body)
+      (λ r a. open-long (openCheck edition form (length key) (length nonce) t (length ad) (length body) (length out))
+      (open-verdict edition form (knownKey (length key)) (length nonce) t (length ad) (length body) (length out)) r a (openRuns edition form key nonce ad t body) (sealing edition form key nonce ad t) body out)
+      (λ r a. opening-counts edition form key nonce ad t out r a body)

@@ -5,9 +5,6 @@ pub mod Demand2
 pub mod Demand3
 pub mod Count
 pub mod Prepared
-pub mod Named
-pub mod Wrong
-pub mod Held
-pub mod WrongPrepared
+pub mod TagLength
 pub mod Unchanged
 pub mod Firmware

@@ -1,12 +1,13 @@
 -- Within the limits every check passes. Assumes nothing.
-use mathlib.Core.Path.{_≡_, refl, ap₂, _∙_}
+use mathlib.Core.Path.{_≡_, refl, ap, ap₂, _∙_}
 use mathlib.Core.Bool.{Bool, true, false, _&&_, _||_}
 use mathlib.Core.Logic.{inl, inr}
 use Prim.Native.Nat.{ℕ, _+_, _-_, _≤_}
-use lib.Dec.{eqb}
+use native.Mathlib.Omega.{arith}
+use lib.Dec.{eqb, leb}
 use borrow.Author.Tests.{eq-eqb, le-leb}
-use Rattle.link.specs.Checks.{Check, pass, from-to, callCheck, sealNext, openNext}
-use Rattle.demands.specs.Calls.{Limits, OneOf}
+use Rattle.link.specs.Checks.{Check, pass, from-to, lastForm, callCheck, sealNext, openNext}
+use Rattle.demands.specs.Calls.{Named, Limits, OneOf}
 
 left : (x y : Bool) → x ≡ true → (x || y) ≡ true
 left x y e = rw e
@@ -20,19 +21,31 @@ known a b c n (inl e) = left (eqb n a) (eqb n b || eqb n c) (eq-eqb n a e)
 known a b c n (inr (inl e)) = right (eqb n a) (eqb n b || eqb n c) (left (eqb n b) (eqb n c) (eq-eqb n b e))
 known a b c n (inr (inr e)) = right (eqb n a) (eqb n b || eqb n c) (right (eqb n b) (eqb n c) (eq-eqb n c e))
 
+pub edition-known : (edition form : ℕ) → Named edition form → (eqb edition 1 || eqb edition 3) ≡ true
+edition-known e form (inl (is, f)) = left (eqb e 1) (eqb e 3) (eq-eqb e 1 is)
+edition-known e form (inr (is, f)) = right (eqb e 1) (eqb e 3) (eq-eqb e 3 is)
+
+pub form-known : (edition form : ℕ) → Named edition form → leb form (lastForm edition) ≡ true
+form-known e form (inl (is, f)) =
+    let last : lastForm e ≡ 0 = ap lastForm is in
+    le-leb form (lastForm e) (omega arith)
+form-known e form (inr (is, f)) =
+    let last : lastForm e ≡ 1 = ap lastForm is in
+    le-leb form (lastForm e) (omega arith)
+
 range : (l h a : ℕ) → l ≤ a → a ≤ h → from-to l h a ≡ true
 range l h a p q = ap₂ _&&_ (le-leb l a p) (le-leb a h q)
 
-module _ (form : ℕ) (known : Bool) (nonce t ad : ℕ) (is : known ≡ true) (f : Limits form nonce t ad) where
-  call-passes : (next : Check) → callCheck form known nonce t ad next ≡ next
+module _ (edition form : ℕ) (known : Bool) (nonce t ad : ℕ) (is : known ≡ true) (f : Limits edition form nonce t ad) where
+  call-passes : (next : Check) → callCheck edition form known nonce t ad next ≡ next
   unfolding callCheck
   call-passes next =
-      rw (le-leb form 1 (f .forms), is, range 1 15 nonce (f .nonces .0) (f .nonces .1), range 4 16 t (f .tags .0) (f .tags .1), le-leb ad 4096 (f .most))
+      rw (edition-known edition form (f .named), form-known edition form (f .named), is, range 1 15 nonce (f .nonces .0) (f .nonces .1), range 4 16 t (f .tags .0) (f .tags .1), le-leb ad 4096 (f .most))
 
-  pub seal-passes : (m o : ℕ) → m ≤ 16384 → m + t ≤ o → callCheck form known nonce t ad (sealNext t m o) ≡ pass (m + t)
+  pub seal-passes : (m o : ℕ) → m ≤ 16384 → m + t ≤ o → callCheck edition form known nonce t ad (sealNext t m o) ≡ pass (m + t)
   seal-passes m o p q =
       call-passes (sealNext t m o) ∙ rw (le-leb m 16384 p, le-leb (m + t) o q)
 
-  pub open-passes : (s o : ℕ) → t ≤ s → s ≤ 16384 + t → s - t ≤ o → callCheck form known nonce t ad (openNext t s o) ≡ pass (s - t)
+  pub open-passes : (s o : ℕ) → t ≤ s → s ≤ 16384 + t → s - t ≤ o → callCheck edition form known nonce t ad (openNext t s o) ≡ pass (s - t)
   open-passes s o p q r =
       call-passes (openNext t s o) ∙ rw (range t (16384 + t) s p q, le-leb (s - t) o r)

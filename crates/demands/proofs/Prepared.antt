@@ -13,7 +13,7 @@ use Rattle.lists.specs.Lay.{lay}
 use Rattle.lists.specs.Zeros.{zeros}
 use Rattle.aes.specs.Expansion.{aes}
 use Rattle.aes.specs.Key.{expanded}
-use Rattle.mode.specs.Form.{formOf}
+use Rattle.mode.specs.Edition.{editionOf}
 use Rattle.mode.specs.Data.{qInputs, withData}
 use Rattle.mode.specs.Sealing.{otrFrom, fromInputs}
 use Rattle.mode.specs.Opening.{Opened, accepted, refused, Allowed}
@@ -124,42 +124,42 @@ and-zero : (ad : List ℕ) (k : ℕ) (own : List (List ℕ)) → k ≡ length ow
 and-zero ad k own h = ap (λ (i : ℕ). zeroRun ad + i) h ∙ sym (length-append (qInputs (withData ad)) own)
 
 -- ---- under the record of a key: with the zero block's run the answer is one that the key's promise allows
-module _ (form : ℕ) (key nonce ad : List ℕ) (t : ℕ) (out : List ℕ) where
-  pub seals-as-key : (m : List ℕ) (r : Answer) (after : List ℕ) → SealsWith form (prepared key) nonce ad m t out r after → Seals form key nonce ad m t out (more (zeroRun ad) r) after
+module _ (edition form : ℕ) (key nonce ad : List ℕ) (t : ℕ) (out : List ℕ) where
+  pub seals-as-key : (m : List ℕ) (r : Answer) (after : List ℕ) → SealsWith edition form (prepared key) nonce ad m t out r after → Seals edition form key nonce ad m t out (more (zeroRun ad) r) after
   unfolding Seals SealsWith
   seals-as-key m r after h =
-      more-seals (zeroRun ad) c (sealRunsWith form (prepared key) nonce ad t m) (sealRuns form key nonce ad t m) (sealingWith form (prepared key) nonce ad t m) (sealing form key nonce ad t m) out r after
-      (stopped c verdict (zeroRun ad) (seal-not-7 form (knownKey (length key)) nonce ad m t out))
+      more-seals (zeroRun ad) c (sealRunsWith edition form (prepared key) nonce ad t m) (sealRuns edition form key nonce ad t m) (sealingWith edition form (prepared key) nonce ad t m) (sealing edition form key nonce ad t m) out r after
+      (stopped c verdict (zeroRun ad) (seal-not-7 edition form (knownKey (length key)) nonce ad m t out))
       (λ n e. let is = sure verdict n e .0 .known in (
-        and-zero ad _ (fromInputs (aes key) (aes key (zeros 16)) (formOf form) nonce ad t m) (under-key key is (λ E q. length (fromInputs E q (formOf form) nonce ad t m))),
-        under-key key is (λ E q. otrFrom E q (formOf form) nonce ad t m),
+        and-zero ad _ (fromInputs (aes key) (aes key (zeros 16)) (editionOf edition form) nonce ad t m) (under-key key is (λ E q. length (fromInputs E q (editionOf edition form) nonce ad t m))),
+        under-key key is (λ E q. otrFrom E q (editionOf edition form) nonce ad t m),
       ))
-      (subst (λ (b : Bool). SealsBy (callCheck form b (length nonce) t (length ad) (sealNext t (length m) (length out))) (sealRunsWith form (prepared key) nonce ad t m) (sealingWith form (prepared key) nonce ad t m) out r after)
+      (subst (λ (b : Bool). SealsBy (callCheck edition form b (length nonce) t (length ad) (sealNext t (length m) (length out))) (sealRunsWith edition form (prepared key) nonce ad t m) (sealingWith edition form (prepared key) nonce ad t m) out r after)
       (known-alike key) h)
     where
       c : Check
-      c = callCheck form (knownKey (length key)) (length nonce) t (length ad) (sealNext t (length m) (length out))
+      c = callCheck edition form (knownKey (length key)) (length nonce) t (length ad) (sealNext t (length m) (length out))
 
-      verdict : Verdict (SealFits form (knownKey (length key)) (length nonce) t (length ad) (length m) (length out)) (length m + t) c
-      verdict = seal-verdict form (knownKey (length key)) (length nonce) t (length ad) (length m) (length out)
+      verdict : Verdict (SealFits edition form (knownKey (length key)) (length nonce) t (length ad) (length m) (length out)) (length m + t) c
+      verdict = seal-verdict edition form (knownKey (length key)) (length nonce) t (length ad) (length m) (length out)
 
-  pub opens-as-key : (s : List ℕ) (r : Answer) (after : List ℕ) → OpensWith form (prepared key) nonce ad s t out r after → Opens form key nonce ad s t out (more (zeroRun ad) r) after
+  pub opens-as-key : (s : List ℕ) (r : Answer) (after : List ℕ) → OpensWith edition form (prepared key) nonce ad s t out r after → Opens edition form key nonce ad s t out (more (zeroRun ad) r) after
   unfolding Opens OpensWith
   opens-as-key s r after h =
-      more-opens (zeroRun ad) c (openRunsWith form (prepared key) nonce ad t s) (openRuns form key nonce ad t s) (sealingWith form (prepared key) nonce ad t) (sealing form key nonce ad t) s out r after
-      (stopped c verdict (zeroRun ad) (open-not-7 form (knownKey (length key)) nonce ad s t out))
+      more-opens (zeroRun ad) c (openRunsWith edition form (prepared key) nonce ad t s) (openRuns edition form key nonce ad t s) (sealingWith edition form (prepared key) nonce ad t) (sealing edition form key nonce ad t) s out r after
+      (stopped c verdict (zeroRun ad) (open-not-7 edition form (knownKey (length key)) nonce ad s t out))
       (λ n e. let is = sure verdict n e .0 .known in (
-        and-zero ad _ (foundFromInputs (aes key) (aes key (zeros 16)) (formOf form) nonce ad t s) (under-key key is (λ E q. length (foundFromInputs E q (formOf form) nonce ad t s))),
-        under-key key is (λ E q. otrFrom E q (formOf form) nonce ad t),
+        and-zero ad _ (foundFromInputs (aes key) (aes key (zeros 16)) (editionOf edition form) nonce ad t s) (under-key key is (λ E q. length (foundFromInputs E q (editionOf edition form) nonce ad t s))),
+        under-key key is (λ E q. otrFrom E q (editionOf edition form) nonce ad t),
       ))
-      (subst (λ (b : Bool). OpensBy (callCheck form b (length nonce) t (length ad) (openNext t (length s) (length out))) (openRunsWith form (prepared key) nonce ad t s) (sealingWith form (prepared key) nonce ad t) s out r after)
+      (subst (λ (b : Bool). OpensBy (callCheck edition form b (length nonce) t (length ad) (openNext t (length s) (length out))) (openRunsWith edition form (prepared key) nonce ad t s) (sealingWith edition form (prepared key) nonce ad t) s out r after)
       (known-alike key) h)
     where
       c : Check
-      c = callCheck form (knownKey (length key)) (length nonce) t (length ad) (openNext t (length s) (length out))
+      c = callCheck edition form (knownKey (length key)) (length nonce) t (length ad) (openNext t (length s) (length out))
 
-      verdict : Verdict (OpenFits form (knownKey (length key)) (length nonce) t (length ad) (length s) (length out)) (length s - t) c
-      verdict = open-verdict form (knownKey (length key)) (length nonce) t (length ad) (length s) (length out)
+      verdict : Verdict (OpenFits edition form (knownKey (length key)) (length nonce) t (length ad) (length s) (length out)) (length s - t) c
+      verdict = open-verdict edition form (knownKey (length key)) (length nonce) t (length ad) (length s) (length out)
 
 -- ---- so the answers r under the record and r′ under the key are alike
 pub record Alike (ad : List ℕ) (r r′ : Answer) (after after′ : List ℕ) : Type 0 where
@@ -185,22 +185,22 @@ alike ad r r′ after after′ (is, same) =
       equal = λ h. ap runsOf (parts r ∙ ap (answerOf (numberOf r) (lengthOf r)) (sym (zero-add (runsOf r)) ∙ ap (λ (k : ℕ). k + runsOf r) (sym (without h))) ∙ is);
     }
 
-module _ (form : ℕ) (key nonce ad : List ℕ) (t : ℕ) (out : List ℕ) (r r′ : Answer) (after after′ : List ℕ) where
-  pub seals-alike : (m : List ℕ) → SealsWith form (prepared key) nonce ad m t out r after → Seals form key nonce ad m t out r′ after′ → Alike ad r r′ after after′
+module _ (edition form : ℕ) (key nonce ad : List ℕ) (t : ℕ) (out : List ℕ) (r r′ : Answer) (after after′ : List ℕ) where
+  pub seals-alike : (m : List ℕ) → SealsWith edition form (prepared key) nonce ad m t out r after → Seals edition form key nonce ad m t out r′ after′ → Alike ad r r′ after after′
   seals-alike m h h′ =
-      alike ad r r′ after after′ (seals-decided form key nonce ad m t out _ r′ after after′ (seals-as-key form key nonce ad t out m r after h) h′)
+      alike ad r r′ after after′ (seals-decided edition form key nonce ad m t out _ r′ after after′ (seals-as-key edition form key nonce ad t out m r after h) h′)
 
-  pub opens-alike : (s : List ℕ) → OpensWith form (prepared key) nonce ad s t out r after → Opens form key nonce ad s t out r′ after′ → Alike ad r r′ after after′
+  pub opens-alike : (s : List ℕ) → OpensWith edition form (prepared key) nonce ad s t out r after → Opens edition form key nonce ad s t out r′ after′ → Alike ad r r′ after after′
   opens-alike s h h′ =
-      alike ad r r′ after after′ (opens-decided form key nonce ad s t out _ r′ after after′ (opens-as-key form key nonce ad t out s r after h) h′)
+      alike ad r r′ after after′ (opens-decided edition form key nonce ad s t out _ r′ after after′ (opens-as-key edition form key nonce ad t out s r after h) h′)
 
 -- and a wrong program that the key's promise rules out by its number and buffer, that of the record rules out too
-module _ (form : ℕ) (key nonce ad body : List ℕ) (t : ℕ) (out : List ℕ) (Bad : ℕ → List ℕ → Type 0) (r : Answer) (after : List ℕ) (bad : Bad (numberOf r) after) where
+module _ (edition form : ℕ) (key nonce ad body : List ℕ) (t : ℕ) (out : List ℕ) (Bad : ℕ → List ℕ → Type 0) (r : Answer) (after : List ℕ) (bad : Bad (numberOf r) after) where
   bad-too : Bad (numberOf (more (zeroRun ad) r)) after
   bad-too = subst (λ (i : ℕ). Bad i after) (sym (same-number (zeroRun ad) r .0)) bad
 
-  pub seals-ruled-out : ((x : Answer) (a : List ℕ) → Bad (numberOf x) a → Seals form key nonce ad body t out x a → ⊥) → SealsWith form (prepared key) nonce ad body t out r after → ⊥
-  seals-ruled-out never h = never _ after bad-too (seals-as-key form key nonce ad t out body r after h)
+  pub seals-ruled-out : ((x : Answer) (a : List ℕ) → Bad (numberOf x) a → Seals edition form key nonce ad body t out x a → ⊥) → SealsWith edition form (prepared key) nonce ad body t out r after → ⊥
+  seals-ruled-out never h = never _ after bad-too (seals-as-key edition form key nonce ad t out body r after h)
 
-  pub opens-ruled-out : ((x : Answer) (a : List ℕ) → Bad (numberOf x) a → Opens form key nonce ad body t out x a → ⊥) → OpensWith form (prepared key) nonce ad body t out r after → ⊥
-  opens-ruled-out never h = never _ after bad-too (opens-as-key form key nonce ad t out body r after h)
+  pub opens-ruled-out : ((x : Answer) (a : List ℕ) → Bad (numberOf x) a → Opens edition form key nonce ad body t out x a → ⊥) → OpensWith edition form (prepared key) nonce ad body t out r after → ⊥
+  opens-ruled-out never h = never _ after bad-too (opens-as-key edition form key nonce ad t out body r after h)

@@ -1,6 +1,7 @@
--- What does not change. A call in the parallel form is what a call was before the form was named (document 02, wish 1); and where its
--- nonce has at most 14 bytes it is what it was when check 2 ended at 14 and the nonce block was the tag byte, zeros, 01 and the nonce
--- (wish 5). And besides the runs that it reports it promises what it did before there were any (wish 6). Assumes nothing.
+-- What does not change. A call in edition 3 is what a call was before the edition was named (document 02, wish 7). One in its parallel
+-- form is what a call was before the form was named (wish 1); and where its nonce has at most 14 bytes it is what it was when check 2
+-- ended at 14 and the nonce block was the tag byte, zeros, 01 and the nonce (wish 5). And besides the runs that it reports a call promises
+-- what it did before there were any (wish 6). Assumes nothing.
 use mathlib.Core.Path.{_≡_, refl, sym, ap, ap₂, _∙_}
 use mathlib.Core.Bool.{Bool, _&&_, _||_}
 use mathlib.Core.Logic.{_↔_}
@@ -11,23 +12,70 @@ use lib.Dec.{eqb, leb}
 use lib.ListN.{length}
 use borrow.Author.Tests.{le-leb}
 use Rattle.lists.specs.Lay.{lay}
+use Rattle.lists.specs.Zeros.{zeros}
 use Rattle.aes.specs.Expansion.{aes}
-use Rattle.mode.specs.Form.{parallel}
+use Rattle.mode.specs.Form.{parallel, formOf}
+use Rattle.mode.specs.Edition.{v3}
 use Rattle.mode.specs.Masks.{third}
 use Rattle.mode.specs.Nonce.{format}
-use Rattle.mode.specs.Sealing.{sealed, otr}
+use Rattle.mode.specs.Sealing.{sealed, firstMask, intoTag, dataTag, otr}
 use Rattle.mode.specs.Opening.{Opened, accepted, refused, Allowed}
 use Rattle.mode.proofs.Data.{taWas, ta-as-it-was}
 use Rattle.mode.proofs.Format.{formatWas, as-it-was}
 use Rattle.passes.specs.Shown.{shown}
 use Rattle.link.specs.Answers.{numberOf, lengthOf, runsOf, answerOf}
-use Rattle.link.specs.Checks.{Check, pass, stop, from-to, unless, callCheck, sealNext, sealCheck, openNext, openCheck}
-use Rattle.link.specs.Promises.{sealing, sealRuns, openRuns, SealsBy, Seals, openedAs, OpensBy, Opens}
+use Rattle.link.specs.Checks.{Check, pass, stop, from-to, unless, knownKey, knownRounds, callCheck, sealNext, sealCheck, openNext, openCheck}
+use Rattle.link.specs.Prepared.{cipherOf}
+use Rattle.link.specs.Promises.{sealing, sealRuns, openRuns, SealsBy, Seals, openedAs, OpensBy, Opens, sealRunsWith, openRunsWith, SealsWith, OpensWith}
 use Rattle.link.specs.declared.answer.Answer.{Answer}
-use Rattle.link.specs.declared.answer.Answer.the-variants.{Done, Key, Nonce, Tag, Data}
+use Rattle.link.specs.declared.answer.Answer.the-variants.{Done, Key, Nonce, Tag, Data, Form}
+use Rattle.link.specs.declared.prepared.Prepared.{Prepared}
 use Rattle.link.proofs.Answers.{parts}
 
--- ---- what was: what a message seals to, from the nonce block b; and checks 1 to 4, for nonces of at most k bytes
+-- ---- before the edition was named: what a message seals to, from a first mask q; and checks 8 and 1 to 4
+abbrev pub otrUnnamed : (List ℕ → List ℕ) → List ℕ → ℕ → List ℕ → List ℕ → ℕ → List ℕ → List ℕ
+otrUnnamed E q form nonce ad t m =
+    let a = dataTag E q (v3 (formOf form)) ad in
+    sealed E (third (firstMask (formOf form) (E (format t nonce)) a)) (intoTag (formOf form) a) t m
+
+abbrev pub callCheckUnnamed : ℕ → Bool → ℕ → ℕ → ℕ → Check → Check
+callCheckUnnamed form known nonce t ad next =
+    unless (leb form 1) Form
+    (unless known Key
+    (unless (from-to 1 15 nonce) Nonce
+    (unless (from-to 4 16 t) Tag
+    (unless (leb ad 4096) Data next))))
+
+module _ (form : ℕ) (nonce ad : List ℕ) (t : ℕ) (out : List ℕ) (r : Answer) (after : List ℕ) where
+  pub seals-third : (key m : List ℕ)
+      → Seals 3 form key nonce ad m t out r after
+      ≡ SealsBy (callCheckUnnamed form (knownKey (length key)) (length nonce) t (length ad) (sealNext t (length m) (length out))) (sealRuns 3 form key nonce ad t m)
+      (otrUnnamed (aes key) (aes key (zeros 16)) form nonce ad t m) out r after
+  unfolding Seals callCheck
+  seals-third key m = refl
+
+  pub opens-third : (key s : List ℕ)
+      → Opens 3 form key nonce ad s t out r after
+      ≡ OpensBy (callCheckUnnamed form (knownKey (length key)) (length nonce) t (length ad) (openNext t (length s) (length out))) (openRuns 3 form key nonce ad t s)
+      (otrUnnamed (aes key) (aes key (zeros 16)) form nonce ad t) s out r after
+  unfolding Opens callCheck
+  opens-third key s = refl
+
+  pub seals-with-third : (p : Prepared) (m : List ℕ)
+      → SealsWith 3 form p nonce ad m t out r after
+      ≡ SealsBy (callCheckUnnamed form (knownRounds (p .rounds)) (length nonce) t (length ad) (sealNext t (length m) (length out))) (sealRunsWith 3 form p nonce ad t m)
+      (otrUnnamed (cipherOf p) (p .zero) form nonce ad t m) out r after
+  unfolding SealsWith callCheck
+  seals-with-third p m = refl
+
+  pub opens-with-third : (p : Prepared) (s : List ℕ)
+      → OpensWith 3 form p nonce ad s t out r after
+      ≡ OpensBy (callCheckUnnamed form (knownRounds (p .rounds)) (length nonce) t (length ad) (openNext t (length s) (length out))) (openRunsWith 3 form p nonce ad t s)
+      (otrUnnamed (cipherOf p) (p .zero) form nonce ad t) s out r after
+  unfolding OpensWith callCheck
+  opens-with-third p s = refl
+
+-- ---- before the form was named: what a message seals to, from the nonce block b; and checks 1 to 4, for nonces of at most k bytes
 abbrev pub otrWas : (List ℕ → List ℕ) → List ℕ → List ℕ → ℕ → List ℕ → List ℕ
 otrWas E b ad t m = sealed E (third (E b)) (taWas E ad) t m
 
@@ -42,30 +90,30 @@ module _ (key nonce ad : List ℕ) (t : ℕ) (out : List ℕ) (r : Answer) (afte
   -- the promises for nonces of at most k bytes, with the nonce block b; the runs are today's
   abbrev pub SealsWas : ℕ → List ℕ → List ℕ → Type 0
   SealsWas k b m =
-      SealsBy (callCheckWas k (length key) (length nonce) t (length ad) (sealNext t (length m) (length out))) (sealRuns 0 key nonce ad t m)
+      SealsBy (callCheckWas k (length key) (length nonce) t (length ad) (sealNext t (length m) (length out))) (sealRuns 3 0 key nonce ad t m)
       (otrWas (aes key) b ad t m) out r after
 
   abbrev pub OpensWas : ℕ → List ℕ → List ℕ → Type 0
   OpensWas k b s =
-      OpensBy (callCheckWas k (length key) (length nonce) t (length ad) (openNext t (length s) (length out))) (openRuns 0 key nonce ad t s)
+      OpensBy (callCheckWas k (length key) (length nonce) t (length ad) (openNext t (length s) (length out))) (openRuns 3 0 key nonce ad t s)
       (otrWas (aes key) b ad t) s out r after
 
   -- ---- the parallel form, before the form was named
-  parallel-is : otr (aes key) parallel nonce ad t ≡ otrWas (aes key) (format t nonce) ad t
+  parallel-is : otr (aes key) (v3 parallel) nonce ad t ≡ otrWas (aes key) (format t nonce) ad t
   parallel-is = ap (λ (a : List ℕ). sealed (aes key) (third (aes key (format t nonce))) a t) (ta-as-it-was (aes key) ad)
 
-  pub seals-parallel : (m : List ℕ) → Seals 0 key nonce ad m t out r after ≡ SealsWas 15 (format t nonce) m
+  pub seals-parallel : (m : List ℕ) → Seals 3 0 key nonce ad m t out r after ≡ SealsWas 15 (format t nonce) m
   unfolding Seals callCheck
   seals-parallel m =
       ap
-      (λ (seal : List ℕ → List ℕ). SealsBy (callCheckWas 15 (length key) (length nonce) t (length ad) (sealNext t (length m) (length out))) (sealRuns 0 key nonce ad t m) (seal m) out r after)
+      (λ (seal : List ℕ → List ℕ). SealsBy (callCheckWas 15 (length key) (length nonce) t (length ad) (sealNext t (length m) (length out))) (sealRuns 3 0 key nonce ad t m) (seal m) out r after)
       parallel-is
 
-  pub opens-parallel : (s : List ℕ) → Opens 0 key nonce ad s t out r after ≡ OpensWas 15 (format t nonce) s
+  pub opens-parallel : (s : List ℕ) → Opens 3 0 key nonce ad s t out r after ≡ OpensWas 15 (format t nonce) s
   unfolding Opens callCheck
   opens-parallel s =
       ap
-      (λ (seal : List ℕ → List ℕ). OpensBy (callCheckWas 15 (length key) (length nonce) t (length ad) (openNext t (length s) (length out))) (openRuns 0 key nonce ad t s) seal s out r after)
+      (λ (seal : List ℕ → List ℕ). OpensBy (callCheckWas 15 (length key) (length nonce) t (length ad) (openNext t (length s) (length out))) (openRuns 3 0 key nonce ad t s) seal s out r after)
       parallel-is
 
   -- ---- nonces of at most 14 bytes, before those of 15
@@ -79,15 +127,15 @@ module _ (key nonce ad : List ℕ) (t : ℕ) (out : List ℕ) (r : Answer) (afte
     otr-is : otrWas (aes key) (format t nonce) ad t ≡ otrWas (aes key) (formatWas t nonce) ad t
     otr-is = ap (λ (b : List ℕ). otrWas (aes key) b ad t) (as-it-was t nonce h)
 
-    pub seals-unchanged : (m : List ℕ) → Seals 0 key nonce ad m t out r after ≡ SealsWas 14 (formatWas t nonce) m
+    pub seals-unchanged : (m : List ℕ) → Seals 3 0 key nonce ad m t out r after ≡ SealsWas 14 (formatWas t nonce) m
     seals-unchanged m =
         seals-parallel m
-        ∙ ap₂ (λ (c : Check) (seal : List ℕ → List ℕ). SealsBy c (sealRuns 0 key nonce ad t m) (seal m) out r after) (check-is (sealNext t (length m) (length out))) otr-is
+        ∙ ap₂ (λ (c : Check) (seal : List ℕ → List ℕ). SealsBy c (sealRuns 3 0 key nonce ad t m) (seal m) out r after) (check-is (sealNext t (length m) (length out))) otr-is
 
-    pub opens-unchanged : (s : List ℕ) → Opens 0 key nonce ad s t out r after ≡ OpensWas 14 (formatWas t nonce) s
+    pub opens-unchanged : (s : List ℕ) → Opens 3 0 key nonce ad s t out r after ≡ OpensWas 14 (formatWas t nonce) s
     opens-unchanged s =
         opens-parallel s
-        ∙ ap₂ (λ (c : Check) (seal : List ℕ → List ℕ). OpensBy c (openRuns 0 key nonce ad t s) seal s out r after) (check-is (openNext t (length s) (length out))) otr-is
+        ∙ ap₂ (λ (c : Check) (seal : List ℕ → List ℕ). OpensBy c (openRuns 3 0 key nonce ad t s) seal s out r after) (check-is (openNext t (length s) (length out))) otr-is
 
 -- ---- before the runs were counted: number, length and buffer
 same-parts : (r q : Answer) → numberOf r ≡ numberOf q → lengthOf r ≡ lengthOf q → runsOf r ≡ runsOf q → r ≡ q
@@ -133,19 +181,19 @@ module _ (k : ℕ) (out : List ℕ) (r : Answer) (after : List ℕ) where
   opens-split (stop c) seal s =
       (λ p. ((ap numberOf (p .0), ap lengthOf (p .0), p .1), ap runsOf (p .0)), λ (q, h). (same-parts r c (q .0) (q .1) h, q .2))
 
-module _ (form : ℕ) (key nonce ad : List ℕ) (t : ℕ) (out : List ℕ) (r : Answer) (after : List ℕ) where
+module _ (edition form : ℕ) (key nonce ad : List ℕ) (t : ℕ) (out : List ℕ) (r : Answer) (after : List ℕ) where
   pub seals-uncounted : (m : List ℕ)
-      → Seals form key nonce ad m t out r after
-      ↔ (SealsUncounted out (numberOf r) (lengthOf r) after (sealCheck form (length key) (length nonce) t (length ad) (length m) (length out)) (sealing form key nonce ad t m)
-      × (runsOf r ≡ runsAt (sealCheck form (length key) (length nonce) t (length ad) (length m) (length out)) (sealRuns form key nonce ad t m)))
+      → Seals edition form key nonce ad m t out r after
+      ↔ (SealsUncounted out (numberOf r) (lengthOf r) after (sealCheck edition form (length key) (length nonce) t (length ad) (length m) (length out)) (sealing edition form key nonce ad t m)
+      × (runsOf r ≡ runsAt (sealCheck edition form (length key) (length nonce) t (length ad) (length m) (length out)) (sealRuns edition form key nonce ad t m)))
   unfolding Seals
   seals-uncounted m =
-      seals-split (sealRuns form key nonce ad t m) out r after (sealCheck form (length key) (length nonce) t (length ad) (length m) (length out)) (sealing form key nonce ad t m)
+      seals-split (sealRuns edition form key nonce ad t m) out r after (sealCheck edition form (length key) (length nonce) t (length ad) (length m) (length out)) (sealing edition form key nonce ad t m)
 
   pub opens-uncounted : (s : List ℕ)
-      → Opens form key nonce ad s t out r after
-      ↔ (OpensUncounted out (numberOf r) (lengthOf r) after (openCheck form (length key) (length nonce) t (length ad) (length s) (length out)) (sealing form key nonce ad t) s
-      × (runsOf r ≡ runsAt (openCheck form (length key) (length nonce) t (length ad) (length s) (length out)) (openRuns form key nonce ad t s)))
+      → Opens edition form key nonce ad s t out r after
+      ↔ (OpensUncounted out (numberOf r) (lengthOf r) after (openCheck edition form (length key) (length nonce) t (length ad) (length s) (length out)) (sealing edition form key nonce ad t) s
+      × (runsOf r ≡ runsAt (openCheck edition form (length key) (length nonce) t (length ad) (length s) (length out)) (openRuns edition form key nonce ad t s)))
   unfolding Opens
   opens-uncounted s =
-      opens-split (openRuns form key nonce ad t s) out r after (openCheck form (length key) (length nonce) t (length ad) (length s) (length out)) (sealing form key nonce ad t) s
+      opens-split (openRuns edition form key nonce ad t s) out r after (openCheck edition form (length key) (length nonce) t (length ad) (length s) (length out)) (sealing edition form key nonce ad t) s

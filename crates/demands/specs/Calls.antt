@@ -6,8 +6,9 @@ use mathlib.Core.List.{List, [], _∷_}
 use Prim.Native.Nat.{ℕ, zero, suc, _+_, _-_, _/_, _≤_}
 use lib.Dec.{eqb, leb}
 use lib.ListN.{length}
-use Rattle.mode.specs.Form.{Form, parallel, serial}
-use Rattle.link.specs.Checks.{from-to}
+use Rattle.mode.specs.Form.{parallel, serial}
+use Rattle.mode.specs.Edition.{Edition, v1, v3}
+use Rattle.link.specs.Checks.{from-to, lastForm}
 use Rattle.link.specs.declared.prepared.Prepared.{Prepared}
 
 -- checks in their order, each with its number and whether it passes: the number of the first that fails, and 0 where none does
@@ -23,30 +24,35 @@ keyKnown key = eqb (length key) 16 || (eqb (length key) 24 || eqb (length key) 3
 abbrev pub roundsKnown : Prepared → Bool
 roundsKnown p = eqb (p .rounds) 10 || (eqb (p .rounds) 12 || eqb (p .rounds) 14)
 
--- check 8 of document 02's wish 1 and document 01's checks 1 to 4 (check 2 as wish 5 has it), which all calls share, and what comes after
--- them
-abbrev pub callChecks : ℕ → Bool → List ℕ → List ℕ → ℕ → List (ℕ × Bool) → List (ℕ × Bool)
-callChecks form known nonce ad t checks =
-    (8, leb form 1)
+-- check 10 of document 02's wish 7, check 8 of wishes 1 and 7, and document 01's checks 1 to 4 (check 2 as wish 5 has it), which all calls
+-- share, and what comes after them
+abbrev pub callChecks : ℕ → ℕ → Bool → List ℕ → List ℕ → ℕ → List (ℕ × Bool) → List (ℕ × Bool)
+callChecks edition form known nonce ad t checks =
+    (10, eqb edition 1 || eqb edition 3)
+    ∷ (8, leb form (lastForm edition))
     ∷ (1, known)
     ∷ (2, from-to 1 15 (length nonce))
     ∷ (3, from-to 4 16 t)
     ∷ (4, leb (length ad) 4096)
     ∷ checks
 
--- all seven, for sealing a message and for opening sealed bytes
-abbrev pub sealChecks : ℕ → Bool → List ℕ → List ℕ → List ℕ → ℕ → List ℕ → List (ℕ × Bool)
-sealChecks form known nonce ad m t out =
-    callChecks form known nonce ad t ((5, leb (length m) 16384) ∷ (6, leb (length m + t) (length out)) ∷ [])
+-- all eight, for sealing a message and for opening sealed bytes
+abbrev pub sealChecks : ℕ → ℕ → Bool → List ℕ → List ℕ → List ℕ → ℕ → List ℕ → List (ℕ × Bool)
+sealChecks edition form known nonce ad m t out =
+    callChecks edition form known nonce ad t ((5, leb (length m) 16384) ∷ (6, leb (length m + t) (length out)) ∷ [])
 
-abbrev pub openChecks : ℕ → Bool → List ℕ → List ℕ → List ℕ → ℕ → List ℕ → List (ℕ × Bool)
-openChecks form known nonce ad s t out =
-    callChecks form known nonce ad t ((5, from-to t (16384 + t) (length s)) ∷ (6, leb (length s - t) (length out)) ∷ [])
+abbrev pub openChecks : ℕ → ℕ → Bool → List ℕ → List ℕ → List ℕ → ℕ → List ℕ → List (ℕ × Bool)
+openChecks edition form known nonce ad s t out =
+    callChecks edition form known nonce ad t ((5, from-to t (16384 + t) (length s)) ∷ (6, leb (length s - t) (length out)) ∷ [])
 
--- the limits on the form and on the lengths of nonce, tag and associated data (document 01; document 02, wishes 1 and 5); and those on a
--- key: the bytes of a raw one are one of 16, 24 and 32, and the rounds of a prepared one one of 10, 12 and 14
-pub record Limits (form nonce t ad : ℕ) : Type 0 where
-  pub forms : form ≤ 1
+-- numbers that name an edition and its form (document 02, wishes 1 and 7)
+abbrev pub Named : ℕ → ℕ → Type 0
+Named edition form = ((edition ≡ 1) × (form ≡ 0)) ⊎ ((edition ≡ 3) × (form ≤ 1))
+
+-- the limits on these and on the lengths of nonce, tag and associated data (document 01; document 02, wish 5); and those on a key: the
+-- bytes of a raw one are one of 16, 24 and 32, and the rounds of a prepared one one of 10, 12 and 14
+pub record Limits (edition form nonce t ad : ℕ) : Type 0 where
+  pub named : Named edition form
   pub nonces : (1 ≤ nonce) × (nonce ≤ 15)
   pub tags : (4 ≤ t) × (t ≤ 16)
   pub most : ad ≤ 4096
@@ -59,23 +65,25 @@ OneOf a b c n = (n ≡ a) ⊎ ((n ≡ b) ⊎ (n ≡ c))
 abbrev pub rounded : ℕ → ℕ
 rounded b = (b + 15) / 16
 
--- parallel data: if there is any, its blocks and one
+-- parallel data in v3.1: if there is any, its blocks and one
 abbrev pub dataRuns : ℕ → ℕ
 dataRuns zero = 0
 dataRuns (suc b) = rounded (suc b) + 1
 
--- serial data, from the steps of AF-S (source document 000, Fig. 3): if there is any, line 2 for Q, line 5 for each block before the
--- last, and line 7 or 8 for that
-abbrev pub chainRuns : ℕ → ℕ
-chainRuns zero = 0
-chainRuns (suc b) = 1 + (rounded (suc b) - 1) + 1
+-- the same from the steps of AF in v1 (source document 003, Fig. 1) and of AF-S (source document 000, Fig. 3): if there is any, line 2
+-- for γ or Q, line 5 for each block before the last, and line 8 or 9, in AF-S 7 or 8, for that
+abbrev pub stepRuns : ℕ → ℕ
+stepRuns zero = 0
+stepRuns (suc b) = 1 + (rounded (suc b) - 1) + 1
 
--- a message of m bytes and data of ad: 2, the message length over 16 rounded up, and the data's; in the serial form the nonce block,
--- the data's, the message's blocks and TE
-abbrev pub formula : Form → ℕ → ℕ → ℕ
-formula parallel m ad = 2 + rounded m + dataRuns ad
-formula serial m ad = 1 + chainRuns ad + rounded m + 1
+-- a message of m bytes and data of ad. In v3.1, parallel: 2, the message length over 16 rounded up, and the data's; serial: the nonce
+-- block, the data's, the message's blocks and TE. In v1: the nonce block, the message's blocks and TE, and the data's
+abbrev pub formula : Edition → ℕ → ℕ → ℕ
+formula v1 m ad = 1 + rounded m + 1 + stepRuns ad
+formula (v3 parallel) m ad = 2 + rounded m + dataRuns ad
+formula (v3 serial) m ad = 1 + stepRuns ad + rounded m + 1
 
--- under a prepared key, in either form, the one for the zero block is lost (wish 9): nonce block, TE, the message's blocks and the data's
+-- under a prepared key, whatever was named, the one for the zero block is lost (wish 9): nonce block, TE, the message's blocks and the
+-- data's
 abbrev pub formulaWith : ℕ → ℕ → ℕ
 formulaWith m ad = 2 + rounded m + rounded ad

@@ -1,2 +1,1 @@
-pub mod Final
 pub mod Rest

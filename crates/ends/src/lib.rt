@@ -3,15 +3,16 @@
 // table the four joined tables.
 ghost use mathlib.Core.Path.{_≡_};
 ghost use mathlib.Core.Bool.{true, false};
-ghost use mathlib.Core.List.{[], _∷_};
-ghost use Prim.Native.Nat.{_+_, _-_, _≤_, _<_};
+ghost use mathlib.Core.List.{List, [], _∷_};
+ghost use Prim.Native.Nat.{ℕ, _+_, _-_, _≤_, _<_};
 ghost use lib.Dec.{ltb};
 ghost use lib.ListN.{length, take, drop};
 ghost use Rattle.lists.specs.Lay.{lay};
 ghost use Rattle.lists.specs.Xor.{xor};
 ghost use Rattle.tables.specs.Joined.{joined};
 ghost use Rattle.aes.specs.Cipher.{cipher};
-ghost use Rattle.mode.specs.Masks.{third};
+ghost use Rattle.mode.specs.Edition.{editionOf};
+ghost use Rattle.mode.specs.Masks.{first, third, masksOf};
 ghost use Rattle.mode.specs.Message.{ending, endingInputs, endSum, oneInputs, lastLength, base, final};
 ghost use Rattle.mode.specs.Undoing.{unending, unendingInputs, undoneSum};
 use pairs::Ran;
@@ -211,9 +212,9 @@ pub fn open_rest(
     open_one(table, w, nr, l, c, at, out)
 }
 
-// The final mask from the mask base b, for a last block of n bytes.
-fn final_mask(b: [u8; 16], n: usize) -> [u8; 16]
-    ensures { λ r. ⌜ r ≡ final (third b) (ltb n 16) b ⌝ }
+// The final mask from the mask base b, for a last block of n bytes: in v3.1, whatever U is, and in v1, where d is δ.
+fn final_of_third(b: [u8; 16], n: usize) -> [u8; 16]
+    ensures { λ r. ⌜ ((u : List ℕ) → r ≡ final (third u) (ltb n 16) b) ⌝ }
 {
     if n < 16 {
         return block::triple_twice(b);
@@ -221,18 +222,41 @@ fn final_mask(b: [u8; 16], n: usize) -> [u8; 16]
     block::seven(b)
 }
 
-// The final mask from the masks l and r behind the pairs, where n bytes remain.
-fn end_mask(l: [u8; 16], r: [u8; 16], n: usize) -> [u8; 16]
-    ensures { λ a. ⌜ a ≡ final (third l) (ltb (lastLength (ltb 16 n) n) 16) (base (ltb 16 n) l r) ⌝ }
+fn final_of_first(d: [u8; 16], b: [u8; 16], n: usize) -> [u8; 16]
+    ensures { λ r. ⌜ r ≡ final (first d) (ltb n 16) b ⌝ }
 {
-    if 16 < n {
-        return final_mask(r, n - 16);
+    let x = block::triple(b);
+    if 16 <= n {
+        return block::xor(x, d);
     }
-    final_mask(l, n)
+    x
 }
 
-// TE from the masks l and r behind the pairs, where n bytes remain, and the checksum s.
+// The same in the edition with this number, from its U or δ.
+fn final_mask(edition: usize, u: [u8; 16], b: [u8; 16], n: usize) -> [u8; 16]
+    ensures { λ r. ⌜ r ≡ final (masksOf (editionOf edition 0) u) (ltb n 16) b ⌝ }
+{
+    if edition == 1 {
+        return final_of_first(u, b, n);
+    }
+    final_of_third(b, n)
+}
+
+// The final mask from the masks l and r behind the pairs, where n bytes remain.
+fn end_mask(edition: usize, u: [u8; 16], l: [u8; 16], r: [u8; 16], n: usize) -> [u8; 16]
+    ensures { λ a. ⌜ a ≡ final (masksOf (editionOf edition 0) u) (ltb (lastLength (ltb 16 n) n) 16) (base (ltb 16 n) l r) ⌝ }
+{
+    if 16 < n {
+        return final_mask(edition, u, r, n - 16);
+    }
+    final_mask(edition, u, l, n)
+}
+
+// TE in the edition with this number, from its U or δ, from the masks l and r behind the pairs, where n bytes remain, and from the
+// checksum s.
 pub fn te(
+    edition: usize,
+    u: [u8; 16],
     table: &[u32; 1024],
     w: &[u8; 240],
     nr: usize,
@@ -243,11 +267,11 @@ pub fn te(
 ) -> Ran
     requires { ⌜ now table ≡ joined ⌝ }
     requires { ⌜ (10 ≤ nr) × (nr ≤ 14) ⌝ }
-    ensures { λ a. ⌜ a .block ≡ cipher nr (now (w .entry)) (xor (final (third l) (ltb (lastLength (ltb 16 n) n) 16) (base (ltb 16 n) l r)) s) ⌝ }
-    ensures { λ a. ⌜ a .runs ≡ length (xor (final (third l) (ltb (lastLength (ltb 16 n) n) 16) (base (ltb 16 n) l r)) s ∷ []) ⌝ }
+    ensures { λ a. ⌜ a .block ≡ cipher nr (now (w .entry)) (xor (final (masksOf (editionOf edition 0) u) (ltb (lastLength (ltb 16 n) n) 16) (base (ltb 16 n) l r)) s) ⌝ }
+    ensures { λ a. ⌜ a .runs ≡ length (xor (final (masksOf (editionOf edition 0) u) (ltb (lastLength (ltb 16 n) n) 16) (base (ltb 16 n) l r)) s ∷ []) ⌝ }
 {
     Ran {
-        block: joined::encrypt(table, w, nr, block::xor(end_mask(l, r, n), s)),
+        block: joined::encrypt(table, w, nr, block::xor(end_mask(edition, u, l, r, n), s)),
         runs: 1,
     }
 }

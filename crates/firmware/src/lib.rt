@@ -15,6 +15,7 @@ fn number(answer: Answer) -> u32
 
 #[no_mangle]
 pub extern "C" fn shaftladder_seal(
+    edition: usize,
     form: usize,
     key: &[u8],
     nonce: &[u8],
@@ -23,13 +24,14 @@ pub extern "C" fn shaftladder_seal(
     tag: usize,
     out: &mut [u8],
 ) -> u32
-    ensures { λ r. ⌜ Numbered (Seals form (now (key .entry)) (now (nonce .entry)) (now (ad .entry)) (now (message .entry)) tag (now (out .entry))) r (now (out .exit)) ⌝ }
+    ensures { λ r. ⌜ Numbered (Seals edition form (now (key .entry)) (now (nonce .entry)) (now (ad .entry)) (now (message .entry)) tag (now (out .entry))) r (now (out .exit)) ⌝ }
 {
-    number(link::seal(form, key, nonce, ad, message, tag, out))
+    number(link::seal(edition, form, key, nonce, ad, message, tag, out))
 }
 
 #[no_mangle]
 pub extern "C" fn shaftladder_open(
+    edition: usize,
     form: usize,
     key: &[u8],
     nonce: &[u8],
@@ -38,7 +40,7 @@ pub extern "C" fn shaftladder_open(
     tag: usize,
     out: &mut [u8],
 ) -> u32
-    ensures { λ r. ⌜ Numbered (Opens form (now (key .entry)) (now (nonce .entry)) (now (ad .entry)) (now (sealed .entry)) tag (now (out .entry))) r (now (out .exit)) ⌝ }
+    ensures { λ r. ⌜ Numbered (Opens edition form (now (key .entry)) (now (nonce .entry)) (now (ad .entry)) (now (sealed .entry)) tag (now (out .entry))) r (now (out .exit)) ⌝ }
 {
-    number(link::open(form, key, nonce, ad, sealed, tag, out))
+    number(link::open(edition, form, key, nonce, ad, sealed, tag, out))
 }

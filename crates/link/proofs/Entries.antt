@@ -14,7 +14,7 @@ use Rattle.aes.specs.Cipher.{cipher}
 use Rattle.aes.specs.Expansion.{keyRounds, keyExpansion, aes}
 use Rattle.aes.specs.Key.{expanded}
 use Rattle.aes.proofs.Keys.{Usable, usable}
-use Rattle.mode.specs.Form.{Form, formOf}
+use Rattle.mode.specs.Edition.{Edition, editionOf}
 use Rattle.mode.specs.Masks.{IsCipher}
 use Rattle.mode.specs.Data.{firstQ, qInputs, withData}
 use Rattle.mode.specs.Sealing.{dataTag, otrFrom, fromInputs}
@@ -43,20 +43,20 @@ open-stopped : (c : Check) (j : ℕ) (seal : List ℕ → List ℕ) (s out : Lis
 open-stopped (pass i) j seal s out r e z = absurd (z (ap numberOf e))
 open-stopped (stop x) j seal s out r e z = (e, refl)
 
-module _ (form : ℕ) (k known : Bool) (same : k ≡ known) (nonce t ad : ℕ) (next : Check) (r : Answer) (is : r ≡ asAnswer (callCheck form k nonce t ad next))
+module _ (edition form : ℕ) (k known : Bool) (same : k ≡ known) (nonce t ad : ℕ) (next : Check) (r : Answer) (is : r ≡ asAnswer (callCheck edition form k nonce t ad next))
     (n : ℕ) (number : n ≡ numberOf r) where
-  answer-is : r ≡ asAnswer (callCheck form known nonce t ad next)
-  answer-is = is ∙ ap (λ (b : Bool). asAnswer (callCheck form b nonce t ad next)) same
+  answer-is : r ≡ asAnswer (callCheck edition form known nonce t ad next)
+  answer-is = is ∙ ap (λ (b : Bool). asAnswer (callCheck edition form b nonce t ad next)) same
 
   -- an answer that is not done: the call stops with it, and the buffer stays
-  pub seal-refused : (n ≡ 0 → ⊥) → (j : ℕ) (bytes out : List ℕ) → SealsBy (callCheck form known nonce t ad next) j bytes out r out
-  seal-refused z j bytes out = seal-stopped (callCheck form known nonce t ad next) j bytes out r answer-is (λ h. z (number ∙ h))
+  pub seal-refused : (n ≡ 0 → ⊥) → (j : ℕ) (bytes out : List ℕ) → SealsBy (callCheck edition form known nonce t ad next) j bytes out r out
+  seal-refused z j bytes out = seal-stopped (callCheck edition form known nonce t ad next) j bytes out r answer-is (λ h. z (number ∙ h))
 
-  pub open-refused : (n ≡ 0 → ⊥) → (j : ℕ) (seal : List ℕ → List ℕ) (s out : List ℕ) → OpensBy (callCheck form known nonce t ad next) j seal s out r out
-  open-refused z j seal s out = open-stopped (callCheck form known nonce t ad next) j seal s out r answer-is (λ h. z (number ∙ h))
+  pub open-refused : (n ≡ 0 → ⊥) → (j : ℕ) (seal : List ℕ → List ℕ) (s out : List ℕ) → OpensBy (callCheck edition form known nonce t ad next) j seal s out r out
+  open-refused z j seal s out = open-stopped (callCheck edition form known nonce t ad next) j seal s out r answer-is (λ h. z (number ∙ h))
 
   -- one that is done: they have passed, and what they make sure of is known
-  pub admitted : {P : Type 0} {i : ℕ} → Verdict P i (callCheck form known nonce t ad next) → n ≡ 0 → P × (callCheck form known nonce t ad next ≡ pass i)
+  pub admitted : {P : Type 0} {i : ℕ} → Verdict P i (callCheck edition form known nonce t ad next) → n ≡ 0 → P × (callCheck edition form known nonce t ad next ≡ pass i)
   admitted v z = went-on v r answer-is (sym number ∙ z)
 
 -- what the checks came to, and the runs and the bytes by other names
@@ -115,28 +115,28 @@ module _ (key : List ℕ) (known : knownKey (length key) ≡ true) where
 
   -- under the record of its own a call with a raw key seals and opens as under the key, and its runs and those for the record are the
   -- key's. c is what the checks came to, i bytes
-  module _ (form : ℕ) (nonce ad : List ℕ) (t : ℕ) (o : Own) (is : o ≡ ownOf key (withData ad)) where
+  module _ (edition form : ℕ) (nonce ad : List ℕ) (t : ℕ) (o : Own) (is : o ≡ ownOf key (withData ad)) where
     under-key : {A : Type 0} (f : (List ℕ → List ℕ) → List ℕ → A) → f (cipherOf (o .key)) (o .key .zero) ≡ f (aes key) (firstQ (aes key) (withData ad))
     under-key f = under-record f (o .key) (firstQ (aes key) (withData ad)) (ap (λ (x : Own). x .key) is)
 
-    sealing-is : sealingWith form (o .key) nonce ad t ≡ sealing form key nonce ad t
-    sealing-is = under-key (λ E q. otrFrom E q (formOf form) nonce ad t) ∙ own-otr (aes key) (formOf form) nonce t ad
+    sealing-is : sealingWith edition form (o .key) nonce ad t ≡ sealing edition form key nonce ad t
+    sealing-is = under-key (λ E q. otrFrom E q (editionOf edition form) nonce ad t) ∙ own-otr (aes key) (editionOf edition form) nonce t ad
 
     runs-of : o .runs ≡ length (qInputs (withData ad))
     runs-of = ap (λ (x : Own). x .runs) is
 
     pub own-seals : (c : Check) (i : ℕ) → c ≡ pass i → (m out : List ℕ) (r : Answer) (after : List ℕ)
-        → SealsBy (pass i) (o .runs + sealRunsWith form (o .key) nonce ad t m) (sealingWith form (o .key) nonce ad t m) out r after
-        → SealsBy c (sealRuns form key nonce ad t m) (sealing form key nonce ad t m) out r after
+        → SealsBy (pass i) (o .runs + sealRunsWith edition form (o .key) nonce ad t m) (sealingWith edition form (o .key) nonce ad t m) out r after
+        → SealsBy c (sealRuns edition form key nonce ad t m) (sealing edition form key nonce ad t m) out r after
     own-seals c i come m out r after p =
-        let runs-are = ap₂ _+_ runs-of (under-key (λ E q. length (fromInputs E q (formOf form) nonce ad t m))) ∙ own-runs (aes key) (formOf form) nonce t ad m in
+        let runs-are = ap₂ _+_ runs-of (under-key (λ E q. length (fromInputs E q (editionOf edition form) nonce ad t m))) ∙ own-runs (aes key) (editionOf edition form) nonce t ad m in
         come-to-seal c i come _ _ _ _ out r after runs-are (ap (λ (seal : List ℕ → List ℕ). seal m) sealing-is) p
 
     pub own-opens : (c : Check) (i : ℕ) → c ≡ pass i → (s out : List ℕ) (r : Answer) (after : List ℕ)
-        → OpensBy (pass i) (o .runs + openRunsWith form (o .key) nonce ad t s) (sealingWith form (o .key) nonce ad t) s out r after
-        → OpensBy c (openRuns form key nonce ad t s) (sealing form key nonce ad t) s out r after
+        → OpensBy (pass i) (o .runs + openRunsWith edition form (o .key) nonce ad t s) (sealingWith edition form (o .key) nonce ad t) s out r after
+        → OpensBy c (openRuns edition form key nonce ad t s) (sealing edition form key nonce ad t) s out r after
     own-opens c i come s out r after p =
-        let runs-are = ap₂ _+_ runs-of (under-key (λ E q. length (foundFromInputs E q (formOf form) nonce ad t s))) ∙ own-found-runs (aes key) (formOf form) nonce t ad s in
+        let runs-are = ap₂ _+_ runs-of (under-key (λ E q. length (foundFromInputs E q (editionOf edition form) nonce ad t s))) ∙ own-found-runs (aes key) (editionOf edition form) nonce t ad s in
         come-to-open c i come _ _ _ _ s out r after runs-are sealing-is p
 
 pub aes-cipher : (key : List ℕ) → IsCipher (aes key)
@@ -144,7 +144,7 @@ unfolding aes
 aes-cipher key = is-cipher (keyRounds key) (keyExpansion key)
 
 -- TA under it
-pub aes-ta : (key : List ℕ) (f : Form) (ad : List ℕ) → length (dataTag (aes key) (aes key (zeros 16)) f ad) ≡ 16
+pub aes-ta : (key : List ℕ) (f : Edition) (ad : List ℕ) → length (dataTag (aes key) (aes key (zeros 16)) f ad) ≡ 16
 unfolding aes
 aes-ta key f ad = length-ta (keyRounds key) (keyExpansion key) (aes key (zeros 16)) f ad
 

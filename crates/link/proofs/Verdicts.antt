@@ -7,9 +7,9 @@ use native.Mathlib.Omega.{arith}
 use lib.Dec.{leb}
 use borrow.Author.Tests.{leb-true}
 use Rattle.link.specs.Answers.{numberOf}
-use Rattle.link.specs.Checks.{Check, pass, stop, from-to, unless, callCheck, sealNext, openNext, asAnswer}
+use Rattle.link.specs.Checks.{Check, pass, stop, from-to, unless, knownEdition, lastForm, callCheck, sealNext, openNext, asAnswer}
 use Rattle.link.specs.declared.answer.Answer.{Answer}
-use Rattle.link.specs.declared.answer.Answer.the-variants.{Key, Nonce, Tag, Data, Length, Room, Form}
+use Rattle.link.specs.declared.answer.Answer.the-variants.{Key, Nonce, Tag, Data, Length, Room, Form, Edition}
 
 -- the checks c come to n bytes with P known, or stop at a refusal
 pub data Verdict (P : Type 0) (n : ℕ) (c : Check) : Type 0 where
@@ -53,79 +53,82 @@ within l h a t =
     let p = and-true (leb l a) (leb a h) t in
     (leb-true l a (p .0), leb-true a h (p .1))
 
--- ---- what checks 8 and 1 to 4 make sure of; k says whether the key is known
-pub record Called (form : ℕ) (k : Bool) (nonce t ad : ℕ) : Type 0 where
-  pub forms : form ≤ 1
+-- ---- what checks 10, 8 and 1 to 4 make sure of; k says whether the key is known
+pub record Called (edition form : ℕ) (k : Bool) (nonce t ad : ℕ) : Type 0 where
+  pub editions : knownEdition edition ≡ true
+  pub forms : form ≤ lastForm edition
   pub known : k ≡ true
   pub nonces : (1 ≤ nonce) × (nonce ≤ 15)
   pub tags : (4 ≤ t) × (t ≤ 16)
   pub data-most : ad ≤ 4096
 
--- and all seven: the message, or the sealed bytes, within their limits too, and room for what is written
-abbrev pub SealFits : ℕ → Bool → ℕ → ℕ → ℕ → ℕ → ℕ → Type 0
-SealFits form k nonce t ad m o = Called form k nonce t ad × (m ≤ 16384) × (m + t ≤ o)
+-- and all eight: the message, or the sealed bytes, within their limits too, and room for what is written
+abbrev pub SealFits : ℕ → ℕ → Bool → ℕ → ℕ → ℕ → ℕ → ℕ → Type 0
+SealFits edition form k nonce t ad m o = Called edition form k nonce t ad × (m ≤ 16384) × (m + t ≤ o)
 
-abbrev pub OpenFits : ℕ → Bool → ℕ → ℕ → ℕ → ℕ → ℕ → Type 0
-OpenFits form k nonce t ad s o = Called form k nonce t ad × (t ≤ s) × (s ≤ 16384 + t) × (s - t ≤ o)
+abbrev pub OpenFits : ℕ → ℕ → Bool → ℕ → ℕ → ℕ → ℕ → ℕ → Type 0
+OpenFits edition form k nonce t ad s o = Called edition form k nonce t ad × (t ≤ s) × (s ≤ 16384 + t) × (s - t ≤ o)
 
-module _ (form : ℕ) (k : Bool) (nonce t ad : ℕ) where
+module _ (edition form : ℕ) (k : Bool) (nonce t ad : ℕ) where
   -- whatever comes after them
-  after : (P : Type 0) (n : ℕ) (c : Check) → (Called form k nonce t ad → Verdict P n c) → Verdict P n (callCheck form k nonce t ad c)
+  after : (P : Type 0) (n : ℕ) (c : Check) → (Called edition form k nonce t ad → Verdict P n c) → Verdict P n (callCheck edition form k nonce t ad c)
   unfolding callCheck
   after P n c f =
-      checked (leb form 1) Form (λ z. omega arith) λ p.
+      checked (knownEdition edition) Edition (λ z. omega arith) λ e.
+      checked (leb form (lastForm edition)) Form (λ z. omega arith) λ p.
       checked k Key (λ z. omega arith) λ known.
       checked (from-to 1 15 nonce) Nonce (λ z. omega arith) λ s.
       checked (from-to 4 16 t) Tag (λ z. omega arith) λ g.
       checked (leb ad 4096) Data (λ z. omega arith) λ a.
-      f (record { forms = leb-true form 1 p; known = known; nonces = within 1 15 nonce s; tags = within 4 16 t g; data-most = leb-true ad 4096 a })
+      f (record { editions = e; forms = leb-true form (lastForm edition) p; known = known; nonces = within 1 15 nonce s; tags = within 4 16 t g; data-most = leb-true ad 4096 a })
 
-  pub call-verdict : Verdict (Called form k nonce t ad) 0 (callCheck form k nonce t ad (pass 0))
-  call-verdict = after (Called form k nonce t ad) 0 (pass 0) (λ h. passes h refl)
+  pub call-verdict : Verdict (Called edition form k nonce t ad) 0 (callCheck edition form k nonce t ad (pass 0))
+  call-verdict = after (Called edition form k nonce t ad) 0 (pass 0) (λ h. passes h refl)
 
-  call-passed : numberOf (asAnswer (callCheck form k nonce t ad (pass 0))) ≡ 0 → Called form k nonce t ad
-  call-passed h = went-on call-verdict (asAnswer (callCheck form k nonce t ad (pass 0))) refl h .0
+  call-passed : numberOf (asAnswer (callCheck edition form k nonce t ad (pass 0))) ≡ 0 → Called edition form k nonce t ad
+  call-passed h = went-on call-verdict (asAnswer (callCheck edition form k nonce t ad (pass 0))) refl h .0
 
-  pub seal-verdict : (m o : ℕ) → Verdict (SealFits form k nonce t ad m o) (m + t) (callCheck form k nonce t ad (sealNext t m o))
+  pub seal-verdict : (m o : ℕ) → Verdict (SealFits edition form k nonce t ad m o) (m + t) (callCheck edition form k nonce t ad (sealNext t m o))
   seal-verdict m o =
-      after (SealFits form k nonce t ad m o) (m + t) (sealNext t m o) λ h.
+      after (SealFits edition form k nonce t ad m o) (m + t) (sealNext t m o) λ h.
       checked (leb m 16384) Length (λ z. omega arith) λ l.
       checked (leb (m + t) o) Room (λ z. omega arith) λ r.
       passes (h, leb-true m 16384 l, leb-true (m + t) o r) refl
 
-  pub open-verdict : (s o : ℕ) → Verdict (OpenFits form k nonce t ad s o) (s - t) (callCheck form k nonce t ad (openNext t s o))
+  pub open-verdict : (s o : ℕ) → Verdict (OpenFits edition form k nonce t ad s o) (s - t) (callCheck edition form k nonce t ad (openNext t s o))
   open-verdict s o =
-      after (OpenFits form k nonce t ad s o) (s - t) (openNext t s o) λ h.
+      after (OpenFits edition form k nonce t ad s o) (s - t) (openNext t s o) λ h.
       checked (from-to t (16384 + t) s) Length (λ z. omega arith) λ l.
       checked (leb (s - t) o) Room (λ z. omega arith) λ r.
       passes (h, within t (16384 + t) s l .0, within t (16384 + t) s l .1, leb-true (s - t) o r) refl
 
-  -- ---- checks 8 and 1 to 4 alone, as the code runs them: their answer, and its number
-  guard : (next : Check) → Guard next (callCheck form k nonce t ad (pass 0)) (callCheck form k nonce t ad next)
+  -- ---- checks 10, 8 and 1 to 4 alone, as the code runs them: their answer, and its number
+  guard : (next : Check) → Guard next (callCheck edition form k nonce t ad (pass 0)) (callCheck edition form k nonce t ad next)
   unfolding callCheck
   guard next =
-      guarded (leb form 1) Form (λ z. omega arith)
+      guarded (knownEdition edition) Edition (λ z. omega arith)
+      (guarded (leb form (lastForm edition)) Form (λ z. omega arith)
       (guarded k Key (λ z. omega arith)
       (guarded (from-to 1 15 nonce) Nonce (λ z. omega arith)
       (guarded (from-to 4 16 t) Tag (λ z. omega arith)
-      (guarded (leb ad 4096) Data (λ z. omega arith) (lets-by refl refl)))))
+      (guarded (leb ad 4096) Data (λ z. omega arith) (lets-by refl refl))))))
 
-  module _ (r : Answer) (is : r ≡ asAnswer (callCheck form k nonce t ad (pass 0))) (n : ℕ) (number : n ≡ numberOf r) where
+  module _ (r : Answer) (is : r ≡ asAnswer (callCheck edition form k nonce t ad (pass 0))) (n : ℕ) (number : n ≡ numberOf r) where
     -- done: the lengths are within their limits, and what comes after them decides
-    pub called : n ≡ 0 → Called form k nonce t ad
+    pub called : n ≡ 0 → Called edition form k nonce t ad
     called z = call-passed (sym (ap numberOf is) ∙ sym number ∙ z)
 
-    pub goes-on : n ≡ 0 → (next : Check) → callCheck form k nonce t ad next ≡ next
+    pub goes-on : n ≡ 0 → (next : Check) → callCheck edition form k nonce t ad next ≡ next
     goes-on z next = go (guard next)
       where
-        go : Guard next (callCheck form k nonce t ad (pass 0)) (callCheck form k nonce t ad next) → callCheck form k nonce t ad next ≡ next
+        go : Guard next (callCheck edition form k nonce t ad (pass 0)) (callCheck edition form k nonce t ad next) → callCheck edition form k nonce t ad next ≡ next
         go (lets-by e f) = f
         go (holds x y e f) = absurd (y (sym (ap (λ (c : Check). numberOf (asAnswer c)) e) ∙ sym (ap numberOf is) ∙ sym number ∙ z))
 
     -- a refusal: the answer, whatever comes after them
-    pub stops-here : (n ≡ 0 → ⊥) → (next : Check) → r ≡ asAnswer (callCheck form k nonce t ad next)
+    pub stops-here : (n ≡ 0 → ⊥) → (next : Check) → r ≡ asAnswer (callCheck edition form k nonce t ad next)
     stops-here z next = go (guard next)
       where
-        go : Guard next (callCheck form k nonce t ad (pass 0)) (callCheck form k nonce t ad next) → r ≡ asAnswer (callCheck form k nonce t ad next)
+        go : Guard next (callCheck edition form k nonce t ad (pass 0)) (callCheck edition form k nonce t ad next) → r ≡ asAnswer (callCheck edition form k nonce t ad next)
         go (lets-by e f) = absurd (z (number ∙ ap numberOf (is ∙ ap asAnswer e)))
         go (holds x y e f) = is ∙ ap asAnswer (e ∙ sym f)

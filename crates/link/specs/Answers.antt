@@ -1,9 +1,9 @@
--- Document 01, 'What comes back', and document 02, wishes 1, 3 and 6: the number, the length and the runs of the cipher of each answer.
+-- Document 01, 'What comes back', and document 02, wishes 1, 3, 6 and 7: the number, the length and the runs of the cipher of each answer.
 use mathlib.Core.List.{[], _∷_}
 use Prim.Native.Nat.{ℕ}
 use lib.ListN.{getD}
 use Rattle.link.specs.declared.answer.Answer.{Answer}
-use Rattle.link.specs.declared.answer.Answer.the-variants.{Done, Key, Nonce, Tag, Data, Length, Room, Forged, Form, Ended}
+use Rattle.link.specs.declared.answer.Answer.the-variants.{Done, Key, Nonce, Tag, Data, Length, Room, Forged, Form, Ended, Edition}
 
 abbrev pub numberOf : Answer → ℕ
 numberOf (Done n k) = 0
@@ -16,6 +16,7 @@ numberOf Room = 6
 numberOf (Forged k) = 7
 numberOf Form = 8
 numberOf Ended = 9
+numberOf Edition = 10
 
 abbrev pub lengthOf : Answer → ℕ
 lengthOf (Done n k) = n
@@ -28,6 +29,7 @@ lengthOf Room = 0
 lengthOf (Forged k) = 0
 lengthOf Form = 0
 lengthOf Ended = 0
+lengthOf Edition = 0
 
 abbrev pub runsOf : Answer → ℕ
 runsOf (Done n k) = k
@@ -40,7 +42,8 @@ runsOf Room = 0
 runsOf (Forged k) = k
 runsOf Form = 0
 runsOf Ended = 0
+runsOf Edition = 0
 
--- the answer that a number from 0 to 9 stands for, where a call that is done has length n, and one that ran the cipher ran it k times
+-- the answer that a number from 0 to 10 stands for, where a call that is done has length n, and one that ran the cipher ran it k times
 abbrev pub answerOf : ℕ → ℕ → ℕ → Answer
-answerOf i n k = getD (Done n k ∷ Key ∷ Nonce ∷ Tag ∷ Data ∷ Length ∷ Room ∷ Forged k ∷ Form ∷ Ended ∷ []) i Ended
+answerOf i n k = getD (Done n k ∷ Key ∷ Nonce ∷ Tag ∷ Data ∷ Length ∷ Room ∷ Forged k ∷ Form ∷ Ended ∷ Edition ∷ []) i Edition

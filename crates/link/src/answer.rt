@@ -5,7 +5,7 @@ ghost use Rattle.link.specs.Answers.{numberOf, lengthOf, runsOf};
 pub enum Answer {
     // Done, with the number of bytes written, and how many times the cipher ran.
     Done { length: usize, runs: usize },
-    // The refusals 1 to 9, in the order of their numbers. Of these the cipher has run for 7 alone, and 9 is a sealer's alone.
+    // The refusals 1 to 10, in the order of their numbers. Of these the cipher has run for 7 alone, and 9 is a sealer's alone.
     Key,
     Nonce,
     Tag,
@@ -15,6 +15,7 @@ pub enum Answer {
     Forged { runs: usize },
     Form,
     Ended,
+    Edition,
 }
 
 pub fn number(a: Answer) -> usize
@@ -31,6 +32,7 @@ pub fn number(a: Answer) -> usize
         Answer::Forged { runs: _ } => 7,
         Answer::Form => 8,
         Answer::Ended => 9,
+        Answer::Edition => 10,
     }
 }
 
@@ -48,6 +50,7 @@ pub fn length(a: Answer) -> usize
         Answer::Forged { runs: _ } => 0,
         Answer::Form => 0,
         Answer::Ended => 0,
+        Answer::Edition => 0,
     }
 }
 
@@ -65,5 +68,6 @@ pub fn runs(a: Answer) -> usize
         Answer::Forged { runs } => runs,
         Answer::Form => 0,
         Answer::Ended => 0,
+        Answer::Edition => 0,
     }
 }

@@ -1,6 +1,7 @@
-// Check 8, and then 1 to 6 in the order of their numbers. They go by the form's number, by lengths, and by a prepared key's round count.
+// Checks 10 and 8, and then 1 to 6 in the order of their numbers. They go by the numbers of the edition and the form, by lengths, and by
+// a prepared key's round count.
 ghost use mathlib.Core.Path.{_≡_};
-ghost use Rattle.link.specs.Checks.{from-to as between, pass, knownKey, knownRounds, callCheck, sealNext, openNext, asAnswer};
+ghost use Rattle.link.specs.Checks.{from-to as between, pass, knownEdition, lastForm, knownKey, knownRounds, callCheck, sealNext, openNext, asAnswer};
 use crate::answer::Answer;
 use crate::answer::number;
 use aes::KeySize;
@@ -13,6 +14,27 @@ pub fn from_to(l: usize, h: usize, a: usize) -> bool
         return false;
     }
     a <= h
+}
+
+// Check 10.
+pub fn known_edition(edition: usize) -> bool
+    ensures { λ r. ⌜ r ≡ knownEdition edition ⌝ }
+{
+    match edition {
+        1 => true,
+        3 => true,
+        _ => false,
+    }
+}
+
+// For check 8, the last form that an edition has.
+pub fn last_form(edition: usize) -> usize
+    ensures { λ r. ⌜ r ≡ lastForm edition ⌝ }
+{
+    match edition {
+        1 => 0,
+        _ => 1,
+    }
 }
 
 // Check 1, for a raw key of so many bytes.
@@ -43,10 +65,20 @@ pub fn known_rounds(rounds: usize) -> bool
 }
 
 // The checks that all calls share. Check 1 has been looked at: the key is known, or it is not.
-pub fn call_check(form: usize, known: bool, nonce: usize, tag: usize, ad: usize) -> Answer
-    ensures { λ r. ⌜ r ≡ asAnswer (callCheck form known nonce tag ad (pass 0)) ⌝ }
+pub fn call_check(
+    edition: usize,
+    form: usize,
+    known: bool,
+    nonce: usize,
+    tag: usize,
+    ad: usize,
+) -> Answer
+    ensures { λ r. ⌜ r ≡ asAnswer (callCheck edition form known nonce tag ad (pass 0)) ⌝ }
 {
-    if 1 < form {
+    if !known_edition(edition) {
+        return Answer::Edition;
+    }
+    if last_form(edition) < form {
         return Answer::Form;
     }
     if !known {
@@ -65,6 +97,7 @@ pub fn call_check(form: usize, known: bool, nonce: usize, tag: usize, ad: usize)
 }
 
 pub fn seal_check(
+    edition: usize,
     form: usize,
     known: bool,
     nonce: usize,
@@ -73,9 +106,9 @@ pub fn seal_check(
     message: usize,
     room: usize,
 ) -> Answer
-    ensures { λ r. ⌜ r ≡ asAnswer (callCheck form known nonce tag ad (sealNext tag message room)) ⌝ }
+    ensures { λ r. ⌜ r ≡ asAnswer (callCheck edition form known nonce tag ad (sealNext tag message room)) ⌝ }
 {
-    let first = call_check(form, known, nonce, tag, ad);
+    let first = call_check(edition, form, known, nonce, tag, ad);
     if number(first) != 0 {
         return first;
     }
@@ -92,6 +125,7 @@ pub fn seal_check(
 }
 
 pub fn open_check(
+    edition: usize,
     form: usize,
     known: bool,
     nonce: usize,
@@ -100,9 +134,9 @@ pub fn open_check(
     sealed: usize,
     room: usize,
 ) -> Answer
-    ensures { λ r. ⌜ r ≡ asAnswer (callCheck form known nonce tag ad (openNext tag sealed room)) ⌝ }
+    ensures { λ r. ⌜ r ≡ asAnswer (callCheck edition form known nonce tag ad (openNext tag sealed room)) ⌝ }
 {
-    let first = call_check(form, known, nonce, tag, ad);
+    let first = call_check(edition, form, known, nonce, tag, ad);
     if number(first) != 0 {
         return first;
     }

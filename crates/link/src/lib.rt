@@ -1,6 +1,7 @@
-// The sealed link: AES-OTR v3.1, sealed and opened in one call each, with parallel (form 0) or serial (form 1) associated data, under a
-// raw key or under a prepared one. No entry point asks anything of its caller; what they promise is in specs/Promises.antt and
-// specs/Prepared.antt. The checks and `own_record` are public for `sealer`, which begins as a call with a raw key does.
+// The sealed link: AES-OTR, sealed and opened in one call each, in edition 3, v3.1 with parallel (form 0) or serial (form 1) associated
+// data, or in edition 1, v1 with parallel data, under a raw key or under a prepared one. No entry point asks anything of its caller; what
+// they promise is in specs/Promises.antt and specs/Prepared.antt. The checks and `own_record` are public for `sealer`, which begins as a
+// call with a raw key does.
 ghost use Rattle.link.specs.Promises.{Seals, Opens, SealsWith, OpensWith};
 
 mod answer;
@@ -25,6 +26,7 @@ pub use prepared::own_record;
 pub use prepared::prepare;
 
 pub fn seal(
+    edition: usize,
     form: usize,
     key: &[u8],
     nonce: &[u8],
@@ -33,10 +35,11 @@ pub fn seal(
     tag: usize,
     out: &mut [u8],
 ) -> Answer
-    ensures { λ r. ⌜ Seals form (now (key .entry)) (now (nonce .entry)) (now (ad .entry)) (now (message .entry)) tag (now (out .entry)) r (now (out .exit)) ⌝ }
+    ensures { λ r. ⌜ Seals edition form (now (key .entry)) (now (nonce .entry)) (now (ad .entry)) (now (message .entry)) tag (now (out .entry)) r (now (out .exit)) ⌝ }
 {
     let known = check::known_key(key.len());
     let answer = check::seal_check(
+        edition,
         form,
         known,
         nonce.len(),
@@ -51,10 +54,22 @@ pub fn seal(
     let tables = tables::joined();
     let own = prepared::own_record(&tables, key, ad);
     let made = own.key;
-    under::seal(form, &tables, made, own.runs, nonce, ad, message, tag, out)
+    under::seal(
+        edition,
+        form,
+        &tables,
+        made,
+        own.runs,
+        nonce,
+        ad,
+        message,
+        tag,
+        out,
+    )
 }
 
 pub fn open(
+    edition: usize,
     form: usize,
     key: &[u8],
     nonce: &[u8],
@@ -63,10 +78,11 @@ pub fn open(
     tag: usize,
     out: &mut [u8],
 ) -> Answer
-    ensures { λ r. ⌜ Opens form (now (key .entry)) (now (nonce .entry)) (now (ad .entry)) (now (sealed .entry)) tag (now (out .entry)) r (now (out .exit)) ⌝ }
+    ensures { λ r. ⌜ Opens edition form (now (key .entry)) (now (nonce .entry)) (now (ad .entry)) (now (sealed .entry)) tag (now (out .entry)) r (now (out .exit)) ⌝ }
 {
     let known = check::known_key(key.len());
     let answer = check::open_check(
+        edition,
         form,
         known,
         nonce.len(),
@@ -81,11 +97,23 @@ pub fn open(
     let tables = tables::joined();
     let own = prepared::own_record(&tables, key, ad);
     let made = own.key;
-    under::open(form, &tables, made, own.runs, nonce, ad, sealed, tag, out)
+    under::open(
+        edition,
+        form,
+        &tables,
+        made,
+        own.runs,
+        nonce,
+        ad,
+        sealed,
+        tag,
+        out,
+    )
 }
 
 // The same two under a prepared key, whoever made it.
 pub fn seal_with(
+    edition: usize,
     form: usize,
     key: Prepared,
     nonce: &[u8],
@@ -94,10 +122,11 @@ pub fn seal_with(
     tag: usize,
     out: &mut [u8],
 ) -> Answer
-    ensures { λ r. ⌜ SealsWith form key (now (nonce .entry)) (now (ad .entry)) (now (message .entry)) tag (now (out .entry)) r (now (out .exit)) ⌝ }
+    ensures { λ r. ⌜ SealsWith edition form key (now (nonce .entry)) (now (ad .entry)) (now (message .entry)) tag (now (out .entry)) r (now (out .exit)) ⌝ }
 {
     let known = check::known_rounds(key.rounds);
     let answer = check::seal_check(
+        edition,
         form,
         known,
         nonce.len(),
@@ -110,10 +139,11 @@ pub fn seal_with(
         return answer;
     }
     let tables = tables::joined();
-    under::seal(form, &tables, key, 0, nonce, ad, message, tag, out)
+    under::seal(edition, form, &tables, key, 0, nonce, ad, message, tag, out)
 }
 
 pub fn open_with(
+    edition: usize,
     form: usize,
     key: Prepared,
     nonce: &[u8],
@@ -122,10 +152,11 @@ pub fn open_with(
     tag: usize,
     out: &mut [u8],
 ) -> Answer
-    ensures { λ r. ⌜ OpensWith form key (now (nonce .entry)) (now (ad .entry)) (now (sealed .entry)) tag (now (out .entry)) r (now (out .exit)) ⌝ }
+    ensures { λ r. ⌜ OpensWith edition form key (now (nonce .entry)) (now (ad .entry)) (now (sealed .entry)) tag (now (out .entry)) r (now (out .exit)) ⌝ }
 {
     let known = check::known_rounds(key.rounds);
     let answer = check::open_check(
+        edition,
         form,
         known,
         nonce.len(),
@@ -138,5 +169,5 @@ pub fn open_with(
         return answer;
     }
     let tables = tables::joined();
-    under::open(form, &tables, key, 0, nonce, ad, sealed, tag, out)
+    under::open(edition, form, &tables, key, 0, nonce, ad, sealed, tag, out)
 }

@@ -10,6 +10,7 @@ use crate::answer::Answer;
 use crate::prepared::Prepared;
 
 pub fn seal(
+    edition: usize,
     form: usize,
     tables: &[u32; 1024],
     key: Prepared,
@@ -24,11 +25,12 @@ pub fn seal(
     requires { ⌜ (10 ≤ key .rounds) × (key .rounds ≤ 14) ⌝ }
     requires { ⌜ (1 ≤ length (now nonce)) × ((length (now nonce) ≤ 15) × (tag ≤ 16)) ⌝ }
     requires { ⌜ (length (now message) + tag ≤ length (now out)) × (before ≤ 1) ⌝ }
-    ensures { λ r. ⌜ SealsBy (pass (length (now (message .entry)) + tag)) (before + sealRunsWith form key (now (nonce .entry)) (now (ad .entry)) tag (now (message .entry))) (sealingWith form key (now (nonce .entry)) (now (ad .entry)) tag (now (message .entry))) (now (out .entry)) r (now (out .exit)) ⌝ }
+    ensures { λ r. ⌜ SealsBy (pass (length (now (message .entry)) + tag)) (before + sealRunsWith edition form key (now (nonce .entry)) (now (ad .entry)) tag (now (message .entry))) (sealingWith edition form key (now (nonce .entry)) (now (ad .entry)) tag (now (message .entry))) (now (out .entry)) r (now (out .exit)) ⌝ }
 {
     let nr = key.rounds;
     let q = key.zero;
     let ran = passes::seal(
+        edition,
         form,
         tables,
         &key.words,
@@ -47,6 +49,7 @@ pub fn seal(
 }
 
 pub fn open(
+    edition: usize,
     form: usize,
     tables: &[u32; 1024],
     key: Prepared,
@@ -61,11 +64,23 @@ pub fn open(
     requires { ⌜ (10 ≤ key .rounds) × (key .rounds ≤ 14) ⌝ }
     requires { ⌜ (1 ≤ length (now nonce)) × ((length (now nonce) ≤ 15) × (tag ≤ 16)) ⌝ }
     requires { ⌜ (tag ≤ length (now sealed)) × ((length (now sealed) - tag ≤ length (now out)) × (before ≤ 1)) ⌝ }
-    ensures { λ r. ⌜ OpensBy (pass (length (now (sealed .entry)) - tag)) (before + openRunsWith form key (now (nonce .entry)) (now (ad .entry)) tag (now (sealed .entry))) (sealingWith form key (now (nonce .entry)) (now (ad .entry)) tag) (now (sealed .entry)) (now (out .entry)) r (now (out .exit)) ⌝ }
+    ensures { λ r. ⌜ OpensBy (pass (length (now (sealed .entry)) - tag)) (before + openRunsWith edition form key (now (nonce .entry)) (now (ad .entry)) tag (now (sealed .entry))) (sealingWith edition form key (now (nonce .entry)) (now (ad .entry)) tag) (now (sealed .entry)) (now (out .entry)) r (now (out .exit)) ⌝ }
 {
     let nr = key.rounds;
     let q = key.zero;
-    let opening = passes::open(form, tables, &key.words, nr, q, nonce, ad, sealed, tag, out);
+    let opening = passes::open(
+        edition,
+        form,
+        tables,
+        &key.words,
+        nr,
+        q,
+        nonce,
+        ad,
+        sealed,
+        tag,
+        out,
+    );
     let ran = before + opening.runs;
     if opening.matches {
         return Answer::Done {

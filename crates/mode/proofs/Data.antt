@@ -1,4 +1,4 @@
--- The data pass in both forms: its blocks have 16 bytes, and so does TA; and the parallel one is what it was. Assumes nothing.
+-- The data pass: its blocks have 16 bytes, and so does TA; and the parallel one of v3.1 is what it was. Assumes nothing.
 use mathlib.Core.Path.{_≡_, refl, sym, ap, ap₂, _∙_}
 use mathlib.Core.Bool.{Bool, true, false}
 use mathlib.Core.List.{List, [], _∷_}
@@ -10,13 +10,14 @@ use lib.ListN.{length, drop, length-drop}
 use Rattle.lists.specs.Xor.{xor}
 use Rattle.lists.specs.Zeros.{zeros}
 use Rattle.lists.proofs.Zeros.{length-zeros}
-use Rattle.block.specs.Block.{pad, double, triple}
+use Rattle.block.specs.Block.{pad, double, triple, tripleTwice}
 use Rattle.block.proofs.Blocks.{length-pad}
 use Rattle.block.proofs.Doubling.{length-double, length-triple}
-use Rattle.mode.specs.Form.{Form, parallel, serial}
+use Rattle.mode.specs.Form.{parallel, serial}
+use Rattle.mode.specs.Edition.{Edition, v1, v3}
 use Rattle.mode.specs.Masks.{IsCipher, doubles}
 use Rattle.mode.specs.Message.{blocks, block}
-use Rattle.mode.specs.Data.{DataPass, dataFinal, dataSum, chainFinal, chain, dataPass, dataEnd, ta}
+use Rattle.mode.specs.Data.{DataPass, startQ, dataFinal, dataSum, parallelPass, chainFinal, chain, dataPass, dataEnd, ta}
 use Rattle.mode.specs.Sealing.{dataTag}
 use Rattle.mode.proofs.Pairs.{length-block}
 use Rattle.mode.proofs.Tag.{xor-sixteen}
@@ -58,17 +59,31 @@ module _ (E : List ℕ → List ℕ) (e : IsCipher E) where
         e (xor (block a (16 * n)) (chain E n a))
         (xor-sixteen (block a (16 * n)) (chain E n a) (length-block a (16 * n) (omega arith)) (length-chain n a (omega arith)))
 
-    length-dataFinal : (s : Bool) (x : List ℕ) → length x ≡ 16 → length (dataFinal s x) ≡ 16
-    length-dataFinal true x h = length-triple x h
-    length-dataFinal false x h = length-triple (triple x) (length-triple x h)
+    length-startQ : (f : Edition) → length (startQ f q) ≡ 16
+    length-startQ v1 = length-double (double q) (length-double q hq)
+    length-startQ (v3 f) = hq
+
+    length-dataFinal : (f : Edition) (s : Bool) (x : List ℕ) → length x ≡ 16 → length (dataFinal f q s x) ≡ 16
+    length-dataFinal v1 true x h = xor-sixteen x q h hq
+    length-dataFinal v1 false x h = xor-sixteen x (double q) h (length-double q hq)
+    length-dataFinal (v3 f) true x h = length-triple x h
+    length-dataFinal (v3 f) false x h = length-triple (triple x) (length-triple x h)
 
     length-chainFinal : (s : Bool) → length (chainFinal s q) ≡ 16
     length-chainFinal true = length-double q hq
     length-chainFinal false = length-double (double q) (length-double q hq)
 
-    are-blocks : (f : Form) → AreBlocks (dataPass E q f)
-    are-blocks parallel = record { xi = length-dataSum; mask = λ n s. length-dataFinal s (doubles n q) (length-doubles n q hq) }
-    are-blocks serial = record { xi = length-chain; mask = λ n s. length-chainFinal s }
+  module _ (q : List ℕ) (hq : length q ≡ 16) where
+    parallel-blocks : (f : Edition) → AreBlocks (parallelPass E q f)
+    parallel-blocks f =
+        let p = startQ f q in
+        let hp = length-startQ q hq f in
+        record { xi = length-dataSum p hp; mask = λ n s. length-dataFinal q hq f s (doubles n p) (length-doubles n p hp) }
+
+    are-blocks : (f : Edition) → AreBlocks (dataPass E q f)
+    are-blocks v1 = parallel-blocks v1
+    are-blocks (v3 parallel) = parallel-blocks (v3 parallel)
+    are-blocks (v3 serial) = record { xi = length-chain q hq; mask = λ n s. length-chainFinal q hq s }
 
   module _ (d : DataPass) where
     -- empty data, and data that is not
@@ -106,11 +121,11 @@ module _ (E : List ℕ → List ℕ) (e : IsCipher E) where
         (xor-sixteen (d .xi n (b ∷ bs)) (pad x) (h .xi n (b ∷ bs) (omega arith))
         (length-pad x (omega (arith, length-drop (16 * n) (b ∷ bs))))))
 
-  pub length-dataTag : (q : List ℕ) → length q ≡ 16 → (f : Form) (a : List ℕ) → length (dataTag E q f a) ≡ 16
+  pub length-dataTag : (q : List ℕ) → length q ≡ 16 → (f : Edition) (a : List ℕ) → length (dataTag E q f a) ≡ 16
   length-dataTag q h f a = length-ta (dataPass E q f) (are-blocks q h f) a
 
 -- the same of whatever q there is, where whatever E gives has 16 bytes
-pub ciphered-dataTag : (E : List ℕ → List ℕ) → ((x : List ℕ) → length (E x) ≡ 16) → (q : List ℕ) (f : Form) (a : List ℕ) → length (dataTag E q f a) ≡ 16
+pub ciphered-dataTag : (E : List ℕ → List ℕ) → ((x : List ℕ) → length (E x) ≡ 16) → (q : List ℕ) (f : Edition) (a : List ℕ) → length (dataTag E q f a) ≡ 16
 unfolding ta
 ciphered-dataTag E e q f [] = length-zeros 16
 ciphered-dataTag E e q f (b ∷ bs) = e _
@@ -120,8 +135,12 @@ pub dataSumWas : (List ℕ → List ℕ) → ℕ → List ℕ → List ℕ
 dataSumWas E zero a = zeros 16
 dataSumWas E (suc n) a = xor (dataSumWas E n a) (E (xor (doubles n (E (zeros 16))) (block a (16 * n))))
 
+abbrev pub finalWas : Bool → List ℕ → List ℕ
+finalWas true x = triple x
+finalWas false x = tripleTwice x
+
 abbrev pub dataEndWas : (List ℕ → List ℕ) → ℕ → List ℕ → List ℕ → List ℕ
-dataEndWas E n a x = E (xor (dataFinal (ltb (length x) 16) (doubles n (E (zeros 16)))) (xor (dataSumWas E n a) (pad x)))
+dataEndWas E n a x = E (xor (finalWas (ltb (length x) 16) (doubles n (E (zeros 16)))) (xor (dataSumWas E n a) (pad x)))
 
 pub taWas : (List ℕ → List ℕ) → List ℕ → List ℕ
 taWas E [] = zeros 16
@@ -133,10 +152,14 @@ unfolding dataSum dataSumWas
 sum-as-it-was E zero a = refl
 sum-as-it-was E (suc n) a = ap (λ (s : List ℕ). xor s (E (xor (doubles n (E (zeros 16))) (block a (16 * n))))) (sum-as-it-was E n a)
 
-pub ta-as-it-was : (E : List ℕ → List ℕ) (a : List ℕ) → dataTag E (E (zeros 16)) parallel a ≡ taWas E a
+final-as-it-was : (E : List ℕ → List ℕ) (s : Bool) (x : List ℕ) → dataFinal (v3 parallel) (E (zeros 16)) s x ≡ finalWas s x
+final-as-it-was E true x = refl
+final-as-it-was E false x = refl
+
+pub ta-as-it-was : (E : List ℕ → List ℕ) (a : List ℕ) → dataTag E (E (zeros 16)) (v3 parallel) a ≡ taWas E a
 unfolding ta taWas
 ta-as-it-was E [] = refl
 ta-as-it-was E (b ∷ bs) =
     let n = blocks (length (b ∷ bs)) - 1 in
     let x = drop (16 * n) (b ∷ bs) in
-    ap (λ (s : List ℕ). E (xor (dataFinal (ltb (length x) 16) (doubles n (E (zeros 16)))) (xor s (pad x)))) (sum-as-it-was E n (b ∷ bs))
+    ap₂ (λ (k s : List ℕ). E (xor k (xor s (pad x)))) (final-as-it-was E (ltb (length x) 16) (doubles n (E (zeros 16)))) (sum-as-it-was E n (b ∷ bs))

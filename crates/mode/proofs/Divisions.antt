@@ -10,6 +10,7 @@ use Rattle.lists.specs.Xor.{xor}
 use Rattle.lists.specs.Zeros.{zeros}
 use Rattle.block.specs.Block.{pad, shift, double}
 use Rattle.mode.specs.Form.{formOf}
+use Rattle.mode.specs.Edition.{v3}
 use Rattle.mode.specs.Masks.{doubles}
 use Rattle.mode.specs.Message.{blocks, pairsOf, even, short, sum, pairs, pairsInputs, body, bodyInputs, checksum}
 use Rattle.mode.specs.Data.{dataSum, sumInputs, chain, chainInputs, ta, taInputs, qInputs, withData}
@@ -32,8 +33,8 @@ computed (f, a, k, t, n, parts, runs, long, x) =
     let nonce = table (λ i. (13 * i + 1) % 256) k in
     let ad = table (λ i. (11 * i + 5) % 256) a in
     let q = standIn (zeros 16) in (
-      length (qInputs (withData ad) ++ callInputs standIn q (formOf f) nonce ad t),
-      calls (added standIn q (formOf f) nonce ad t) t (begun (masks standIn q (formOf f) nonce ad t)) 0 parts,
+      length (qInputs (withData ad) ++ callInputs standIn q (v3 (formOf f)) nonce ad t),
+      calls (added standIn q (v3 (formOf f)) nonce ad t) t (begun (masks standIn q (v3 (formOf f)) nonce ad t)) 0 parts,
     )
 
 pub given : Row → ℕ × List (ℕ × List ℕ)

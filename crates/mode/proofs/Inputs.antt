@@ -1,5 +1,5 @@
 -- The inputs are all that is handed to the cipher: two ciphers that agree on them seal to the same, and open to the same, whether the
--- first Q is lent or a call's own. So no run is left out of a list. Assumes nothing.
+-- first mask is lent or a call's own. So no run is left out of a list. Assumes nothing.
 use mathlib.Core.Path.{_≡_, refl, sym, ap, ap₂, subst, _∙_}
 use mathlib.Core.Bool.{Bool, true, false}
 use mathlib.Core.List.{List, [], _∷_, _++_}
@@ -11,10 +11,11 @@ use Rattle.lists.specs.Xor.{xor}
 use Rattle.lists.specs.Zeros.{zeros}
 use Rattle.lists.proofs.Zeros.{length-zeros}
 use Rattle.block.specs.Block.{pad}
-use Rattle.mode.specs.Form.{Form, parallel, serial}
-use Rattle.mode.specs.Masks.{Masks, IsCipher, AreMasks, doubles, third}
+use Rattle.mode.specs.Form.{parallel, serial}
+use Rattle.mode.specs.Edition.{Edition, v1, v3, formIn}
+use Rattle.mode.specs.Masks.{Masks, IsCipher, AreMasks, doubles, masksOf}
 use Rattle.mode.specs.Message.{blocks, pairsOf, even, block, rest, short, sum, base, final, oneInputs, half, pair, pairInputs, z, last, ending, endingInputs, endSum, pairs, pairsInputs, l, r, body, bodyInputs, checksum, te, teInput}
-use Rattle.mode.specs.Data.{dataSum, sumInputs, chain, chainInputs, dataPass, dataLast, ta, taInputs, qInputs, withData}
+use Rattle.mode.specs.Data.{startQ, dataSum, sumInputs, chain, chainInputs, dataPass, dataLast, ta, taInputs, qInputs, withData}
 use Rattle.mode.specs.Sealing.{tag, sealed, sealedInputs, firstMask, intoTag, dataTag, masks, added, otrFrom, callInputs, fromInputs, otr, otrInputs}
 use Rattle.mode.specs.Opening.{Opened, Allowed}
 use Rattle.mode.specs.Undoing.{swapped, first, unending, unendingInputs, unbody, unbodyInputs, undoneInputs, answer, opened, foundFrom, foundFromInputs, found, foundInputs}
@@ -22,15 +23,15 @@ use Rattle.mode.proofs.Ends.{Remains, first-undone}
 use Rattle.mode.proofs.Walk.{remains, length-unbody}
 use Rattle.mode.proofs.Parts.{rest-undone}
 use Rattle.mode.proofs.Data.{length-dataTag}
-use Rattle.mode.proofs.Third.{otr-masks, otr-opens, otr-one-answer}
+use Rattle.mode.proofs.Otr.{otr-masks, otr-opens, otr-one-answer}
 
 -- E and F give the same for each block of a list
 abbrev pub Agree : (List ℕ → List ℕ) → (List ℕ → List ℕ) → List (List ℕ) → Type 0
 Agree E F [] = Unit {0}
 Agree E F (x ∷ xs) = (E x ≡ F x) × Agree E F xs
 
--- TA from the first Q of a call's own
-own-long : (E : List ℕ → List ℕ) → IsCipher E → (f : Form) (ad : List ℕ) → length (dataTag E (E (zeros 16)) f ad) ≡ 16
+-- TA from the first mask of a call's own
+own-long : (E : List ℕ → List ℕ) → IsCipher E → (f : Edition) (ad : List ℕ) → length (dataTag E (E (zeros 16)) f ad) ≡ 16
 own-long E e f ad = length-dataTag E e (E (zeros 16)) (e (zeros 16) (length-zeros 16)) f ad
 
 module _ (E F : List ℕ → List ℕ) where
@@ -118,15 +119,17 @@ module _ (E F : List ℕ → List ℕ) where
       back (chainInputs E n a) (here ∷ []) h .0
       ∙ ap (λ (x : List ℕ). F (xor (block a (16 * n)) x)) (chain-same n a (front (chainInputs E n a) (here ∷ []) h))
 
-  xi-same : (q : List ℕ) (f : Form) (n : ℕ) (a : List ℕ) → Agree E F (dataPass E q f .inputs n a) → dataPass E q f .xi n a ≡ dataPass F q f .xi n a
-  xi-same q parallel n a h = dataSum-same q n a h
-  xi-same q serial n a h = chain-same n a h
+  xi-same : (q : List ℕ) (f : Edition) (n : ℕ) (a : List ℕ) → Agree E F (dataPass E q f .inputs n a) → dataPass E q f .xi n a ≡ dataPass F q f .xi n a
+  xi-same q v1 n a h = dataSum-same (startQ v1 q) n a h
+  xi-same q (v3 parallel) n a h = dataSum-same q n a h
+  xi-same q (v3 serial) n a h = chain-same n a h
 
-  mask-same : (q : List ℕ) (f : Form) (n : ℕ) (s : Bool) → dataPass E q f .mask n s ≡ dataPass F q f .mask n s
-  mask-same q parallel n s = refl
-  mask-same q serial n s = refl
+  mask-same : (q : List ℕ) (f : Edition) (n : ℕ) (s : Bool) → dataPass E q f .mask n s ≡ dataPass F q f .mask n s
+  mask-same q v1 n s = refl
+  mask-same q (v3 parallel) n s = refl
+  mask-same q (v3 serial) n s = refl
 
-  ta-same : (q : List ℕ) (f : Form) (a : List ℕ) → Agree E F (taInputs E (dataPass E q f) a) → dataTag E q f a ≡ dataTag F q f a
+  ta-same : (q : List ℕ) (f : Edition) (a : List ℕ) → Agree E F (taInputs E (dataPass E q f) a) → dataTag E q f a ≡ dataTag F q f a
   unfolding ta taInputs
   ta-same q f [] h = refl
   ta-same q f (b ∷ bs) h =
@@ -138,7 +141,7 @@ module _ (E F : List ℕ → List ℕ) where
       back (d .inputs n a) (here ∷ []) h .0
       ∙ ap₂ (λ (k y : List ℕ). F (xor k (xor y (pad x)))) (mask-same q f n _) (xi-same q f n a (front (d .inputs n a) (here ∷ []) h))
 
-  own-same : (f : Form) (ad : List ℕ) → Agree E F (qInputs (withData ad)) → Agree E F (taInputs E (dataPass E (E (zeros 16)) f) ad)
+  own-same : (f : Edition) (ad : List ℕ) → Agree E F (qInputs (withData ad)) → Agree E F (taInputs E (dataPass E (E (zeros 16)) f) ad)
       → dataTag E (E (zeros 16)) f ad ≡ dataTag F (F (zeros 16)) f ad
   unfolding ta
   own-same f [] hq h = refl
@@ -207,14 +210,14 @@ module _ (E F : List ℕ → List ℕ) where
       let c = take (length x - t) x in
       ap₂ (λ (y p : List ℕ). answer (same (take t (xor y a)) (drop (length x - t) x)) p) (te-undone-same e k s c h) (unbody-same e k s c h)
 
-  -- ---- a call of v3.1 in the form f, from the first Q p under E and q under F, of which no more is asked than that TA comes to the same
-  module _ (p q : List ℕ) (f : Form) (nonce ad : List ℕ) (t : ℕ) (tas : Agree E F (taInputs E (dataPass E p f) ad) → dataTag E p f ad ≡ dataTag F q f ad) where
+  -- ---- a call that names f, from the first mask p under E and q under F, of which no more is asked than that TA comes to the same
+  module _ (p q : List ℕ) (f : Edition) (nonce ad : List ℕ) (t : ℕ) (tas : Agree E F (taInputs E (dataPass E p f) ad) → dataTag E p f ad ≡ dataTag F q f ad) where
     module _ (h : Agree E F (callInputs E p f nonce ad t)) where
       masks-same : masks E p f nonce ad t ≡ masks F q f nonce ad t
-      masks-same = ap₂ (λ (v a : List ℕ). third (firstMask f v a)) (h .0) (tas (h .1))
+      masks-same = ap₂ (λ (v a : List ℕ). masksOf f (firstMask (formIn f) v a)) (h .0) (tas (h .1))
 
       added-same : added E p f nonce ad t ≡ added F q f nonce ad t
-      added-same = ap (intoTag f) (tas (h .1))
+      added-same = ap (intoTag (formIn f)) (tas (h .1))
 
     sealing-same : (m : List ℕ) → Agree E F (fromInputs E p f nonce ad t m) → otrFrom E p f nonce ad t m ≡ otrFrom F q f nonce ad t m
     sealing-same m h =
@@ -242,8 +245,8 @@ module _ (E F : List ℕ → List ℕ) where
           ∙ finding-same
           ∙ otr-one-answer F g q f nonce ad t hq hn ht x (foundFrom F q f nonce ad t x) r (otr-opens F g q f nonce ad t hq hn ht x long) allowed′
 
-  -- ---- with a first Q that is lent, the same to both
-  module _ (q : List ℕ) (f : Form) (nonce ad : List ℕ) (t : ℕ) where
+  -- ---- with a first mask that is lent, the same to both
+  module _ (q : List ℕ) (f : Edition) (nonce ad : List ℕ) (t : ℕ) where
     pub lent-same : (m : List ℕ) → Agree E F (fromInputs E q f nonce ad t m) → otrFrom E q f nonce ad t m ≡ otrFrom F q f nonce ad t m
     lent-same = sealing-same q q f nonce ad t (ta-same q f ad)
 
@@ -257,8 +260,8 @@ module _ (E F : List ℕ → List ℕ) where
     lent-allowed-same e g hq hn ht x long h =
         allowing-same q q f nonce ad t (ta-same q f ad) e (length-dataTag E e q hq f ad) hn x h g (length-dataTag F g q hq f ad) ht long
 
-  -- ---- with the first Q of a call's own, E of the zero block
-  module _ (f : Form) (nonce ad : List ℕ) (t : ℕ) where
+  -- ---- with the first mask of a call's own, E of the zero block
+  module _ (f : Edition) (nonce ad : List ℕ) (t : ℕ) where
     pub otr-same : (m : List ℕ) → Agree E F (otrInputs E f nonce ad t m) → otr E f nonce ad t m ≡ otr F f nonce ad t m
     otr-same m h =
         let others = fromInputs E (E (zeros 16)) f nonce ad t m in

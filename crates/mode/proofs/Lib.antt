@@ -12,9 +12,10 @@ pub mod Front
 pub mod Parts
 pub mod Opens
 pub mod Format
-pub mod Form
+pub mod Edition
 pub mod Data
-pub mod Third
+pub mod Otr
+pub mod TagLength
 pub mod Runs
 pub mod Own
 pub mod Feeding

@@ -1,5 +1,5 @@
--- A call whose first Q is its own. Where the data pass needs it, it is E of the zero block, and so the call is AES-OTR v3.1; where it
--- does not, it does not matter. Assumes nothing.
+-- A call whose first mask is its own. Where the data pass needs it, it is E of the zero block, and so the call is AES-OTR in the edition
+-- named; where it does not, it does not matter. Assumes nothing.
 use mathlib.Core.Path.{_≡_, refl, sym, ap, _∙_}
 use mathlib.Core.List.{List, [], _∷_, _++_}
 use Prim.Native.Nat.{ℕ, _+_}
@@ -8,7 +8,7 @@ use lib.Dec.{ltb}
 use lib.ListN.{length, length-append}
 use borrow.Author.Tests.{lt-ltb}
 use Rattle.lists.specs.Zeros.{zeros}
-use Rattle.mode.specs.Form.{Form}
+use Rattle.mode.specs.Edition.{Edition}
 use Rattle.mode.specs.Data.{ta, taInputs, firstQ, qInputs, withData}
 use Rattle.mode.specs.Sealing.{dataTag, otrFrom, callInputs, fromInputs, otr, otrInputs}
 use Rattle.mode.specs.Undoing.{foundFromInputs, foundInputs}
@@ -18,7 +18,7 @@ pub with-data : (ad : List ℕ) → ltb 0 (length ad) ≡ withData ad
 with-data [] = refl
 with-data (b ∷ bs) = lt-ltb 0 (length (b ∷ bs)) (omega arith)
 
-module _ (E : List ℕ → List ℕ) (f : Form) (nonce : List ℕ) (t : ℕ) where
+module _ (E : List ℕ → List ℕ) (f : Edition) (nonce : List ℕ) (t : ℕ) where
   pub own-otr : (ad : List ℕ) → otrFrom E (firstQ E (withData ad)) f nonce ad t ≡ otr E f nonce ad t
   unfolding ta
   own-otr [] = refl
@@ -41,7 +41,7 @@ module _ (E : List ℕ → List ℕ) (f : Form) (nonce : List ℕ) (t : ℕ) whe
       ap (λ (x : List (List ℕ)). length (qInputs (withData ad)) + length x) (own-call-inputs ad)
       ∙ sym (length-append (qInputs (withData ad)) (callInputs E (E (zeros 16)) f nonce ad t))
 
-  -- the runs for the first Q and those with it at hand
+  -- the runs for the first mask and those with it at hand
   own-inputs : (ad m : List ℕ) → fromInputs E (firstQ E (withData ad)) f nonce ad t m ≡ fromInputs E (E (zeros 16)) f nonce ad t m
   unfolding ta taInputs
   own-inputs [] m = refl

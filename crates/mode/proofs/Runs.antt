@@ -1,4 +1,5 @@
--- How many blocks each step hands to the cipher: it goes by lengths alone, and in both forms it is the same number. Assumes nothing.
+-- How many blocks each step hands to the cipher: it goes by lengths alone, and whatever edition and form are named it is the same number.
+-- Assumes nothing.
 use mathlib.Core.Path.{_≡_, refl, ap, _∙_}
 use mathlib.Core.Bool.{Bool, true, false}
 use mathlib.Core.List.{List, [], _∷_, _++_}
@@ -8,10 +9,11 @@ use native.Mathlib.Omega.{arith}
 use lib.ListN.{length, take, length-append, length-drop}
 use lib.Seq.{length-take-le}
 use Rattle.lists.specs.Xor.{xor}
-use Rattle.mode.specs.Form.{Form, parallel, serial}
+use Rattle.mode.specs.Form.{parallel, serial}
+use Rattle.mode.specs.Edition.{Edition, v1, v3}
 use Rattle.mode.specs.Masks.{Masks, doubles}
 use Rattle.mode.specs.Message.{blocks, pairsOf, even, block, rest, oneInputs, pairInputs, endingInputs, pairsInputs, l, r, bodyInputs, teInput}
-use Rattle.mode.specs.Data.{DataPass, sumInputs, chain, chainInputs, dataPass, taInputs, qInputs, withData}
+use Rattle.mode.specs.Data.{DataPass, startQ, sumInputs, chain, chainInputs, dataPass, taInputs, qInputs, withData}
 use Rattle.mode.specs.Sealing.{sealedInputs, masks, callInputs, fromInputs}
 use Rattle.mode.specs.Undoing.{swapped, unendingInputs, unbody, unbodyInputs, undoneInputs, foundFromInputs}
 use Rattle.mode.proofs.Counts.{pairs-are}
@@ -90,9 +92,10 @@ pub length-chainInputs : (E : List ℕ → List ℕ) (n : ℕ) (a : List ℕ) �
 unfolding chainInputs
 length-chainInputs E n a = grown (λ i. chainInputs E i a) (λ i. xor (block a (16 * i)) (chain E i a)) refl (λ i. refl) n
 
-length-inputs : (E : List ℕ → List ℕ) (q : List ℕ) (f : Form) (n : ℕ) (a : List ℕ) → length (dataPass E q f .inputs n a) ≡ n
-length-inputs E q parallel n a = length-sumInputs q n a
-length-inputs E q serial n a = length-chainInputs E n a
+length-inputs : (E : List ℕ → List ℕ) (q : List ℕ) (f : Edition) (n : ℕ) (a : List ℕ) → length (dataPass E q f .inputs n a) ≡ n
+length-inputs E q v1 n a = length-sumInputs (startQ v1 q) n a
+length-inputs E q (v3 parallel) n a = length-sumInputs q n a
+length-inputs E q (v3 serial) n a = length-chainInputs E n a
 
 -- TA: the blocks before the last, and the last; none without data
 module _ (E : List ℕ → List ℕ) (d : DataPass) where
@@ -108,7 +111,7 @@ module _ (E : List ℕ → List ℕ) (d : DataPass) where
       let is : blocks (length (b ∷ bs)) - 1 ≡ n = omega arith in
       one-more (d .inputs (blocks (length (b ∷ bs)) - 1) (b ∷ bs)) _ ∙ ap (λ (k : ℕ). length (d .inputs k (b ∷ bs)) + 1) is
 
-pub length-taInputs : (E : List ℕ → List ℕ) (q : List ℕ) (f : Form) (a : List ℕ) → length (taInputs E (dataPass E q f) a) ≡ (length a + 15) / 16
+pub length-taInputs : (E : List ℕ → List ℕ) (q : List ℕ) (f : Edition) (a : List ℕ) → length (taInputs E (dataPass E q f) a) ≡ (length a + 15) / 16
 unfolding taInputs
 length-taInputs E q f [] = refl
 length-taInputs E q f (b ∷ bs) =
@@ -120,8 +123,8 @@ pub length-qInputs : (a : List ℕ) → length (qInputs (withData a)) ≡ min 1 
 length-qInputs [] = refl
 length-qInputs (b ∷ bs) = omega arith
 
--- ---- a call, in either form, with its first Q at hand
-module _ (E : List ℕ → List ℕ) (q : List ℕ) (f : Form) (nonce ad : List ℕ) (t : ℕ) where
+-- ---- a call, whatever it names, with its first mask at hand
+module _ (E : List ℕ → List ℕ) (q : List ℕ) (f : Edition) (nonce ad : List ℕ) (t : ℕ) where
   pub length-callInputs : length (callInputs E q f nonce ad t) ≡ 1 + (length ad + 15) / 16
   length-callInputs = omega (arith, length-taInputs E q f ad)
 

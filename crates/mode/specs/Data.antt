@@ -1,6 +1,6 @@
--- The associated data pass in both forms (document 01; source document 000, Fig. 1, AF, and Fig. 3, AF-S), over any cipher E and any
--- first Q, here q; in both figures, line 2, it is E(0ⁿ), and in a prepared key what that holds (document 02, wish 9). Beside what a
--- step gives stand its inputs, the blocks that it hands to the cipher, as in the message pass.
+-- The associated data pass (document 01; source document 000, Fig. 1, AF, and Fig. 3, AF-S; source document 003, Fig. 1, AF), over any
+-- cipher E and any first mask q; in all figures, line 2, it is E(0ⁿ), and in a prepared key what that holds (document 02, wish 9). Beside
+-- what a step gives stand its inputs, the blocks that it hands to the cipher, as in the message pass.
 use mathlib.Core.Bool.{Bool, true, false}
 use mathlib.Core.List.{List, [], _∷_, _++_}
 use Prim.Native.Nat.{ℕ, zero, suc, _-_, _*_}
@@ -9,22 +9,30 @@ use lib.ListN.{length, drop}
 use Rattle.lists.specs.Xor.{xor}
 use Rattle.lists.specs.Zeros.{zeros}
 use Rattle.block.specs.Block.{pad, double, triple, tripleTwice}
-use Rattle.mode.specs.Form.{Form, parallel, serial}
+use Rattle.mode.specs.Form.{parallel, serial}
+use Rattle.mode.specs.Edition.{Edition, v1, v3}
 use Rattle.mode.specs.Masks.{doubles}
 use Rattle.mode.specs.Message.{blocks, block}
 
--- what a form says of the pass: Ξ behind the first n blocks of the data, the blocks that those hand to the cipher, and the mask of a
--- last block behind them, by whether it is short
+-- what an edition and its form say of the pass: Ξ behind the first n blocks of the data, the blocks that those hand to the cipher, and the
+-- mask of a last block behind them, by whether it is short
 pub record DataPass : Type 0 where
   pub xi : ℕ → List ℕ → List ℕ
   pub inputs : ℕ → List ℕ → List (List ℕ)
   pub mask : ℕ → Bool → List ℕ
 
 -- ---- parallel (AF)
--- lines 8 and 9: 3Q for a short last block, 3²Q for a full one
-abbrev pub dataFinal : Bool → List ℕ → List ℕ
-dataFinal true x = triple x
-dataFinal false x = tripleTwice x
+-- line 2: the Q of the first block, which in v1 is 4γ, where q is γ
+abbrev pub startQ : Edition → List ℕ → List ℕ
+startQ v1 q = double (double q)
+startQ (v3 f) q = q
+
+-- lines 8 and 9, for a last block whose Q is x: in v1 Q ⊕ γ where it is short, Q ⊕ 2γ where it is full; in v3.1 3Q and 3²Q
+abbrev pub dataFinal : Edition → List ℕ → Bool → List ℕ → List ℕ
+dataFinal v1 q true x = xor x q
+dataFinal v1 q false x = xor x (double q)
+dataFinal (v3 f) q true x = triple x
+dataFinal (v3 f) q false x = tripleTwice x
 
 -- lines 1, 4, 5 and 6: the first n blocks, each with its own Q
 unfoldable pub dataSum : (List ℕ → List ℕ) → List ℕ → ℕ → List ℕ → List ℕ
@@ -34,6 +42,14 @@ dataSum E q (suc n) a = xor (dataSum E q n a) (E (xor (doubles n q) (block a (16
 unfoldable pub sumInputs : List ℕ → ℕ → List ℕ → List (List ℕ)
 sumInputs q zero a = []
 sumInputs q (suc n) a = sumInputs q n a ++ (xor (doubles n q) (block a (16 * n)) ∷ [])
+
+abbrev pub parallelPass : (List ℕ → List ℕ) → List ℕ → Edition → DataPass
+parallelPass E q f =
+    record {
+      xi = dataSum E (startQ f q);
+      inputs = sumInputs (startQ f q);
+      mask = λ n s. dataFinal f q s (doubles n (startQ f q));
+    }
 
 -- ---- serial (AF-S)
 -- lines 7 and 8: 2Q for a short last block, 4Q for a full one
@@ -50,10 +66,14 @@ unfoldable pub chainInputs : (List ℕ → List ℕ) → ℕ → List ℕ → Li
 chainInputs E zero a = []
 chainInputs E (suc n) a = chainInputs E n a ++ (xor (block a (16 * n)) (chain E n a) ∷ [])
 
--- ---- either
-abbrev pub dataPass : (List ℕ → List ℕ) → List ℕ → Form → DataPass
-dataPass E q parallel = record { xi = dataSum E q; inputs = sumInputs q; mask = λ n s. dataFinal s (doubles n q) }
-dataPass E q serial = record { xi = chain E; inputs = chainInputs E; mask = λ n s. chainFinal s q }
+abbrev pub serialPass : (List ℕ → List ℕ) → List ℕ → DataPass
+serialPass E q = record { xi = chain E; inputs = chainInputs E; mask = λ n s. chainFinal s q }
+
+-- ---- whichever was named
+abbrev pub dataPass : (List ℕ → List ℕ) → List ℕ → Edition → DataPass
+dataPass E q v1 = parallelPass E q v1
+dataPass E q (v3 parallel) = parallelPass E q (v3 parallel)
+dataPass E q (v3 serial) = serialPass E q
 
 module _ (E : List ℕ → List ℕ) (d : DataPass) where
   -- AF, lines 7 to 10; AF-S, lines 6 to 9: n blocks, and a last block x; what is handed to the cipher, and what comes out
@@ -76,7 +96,7 @@ module _ (E : List ℕ → List ℕ) (d : DataPass) where
   taInputs [] = []
   taInputs (b ∷ bs) = endInputs (blocks (length (b ∷ bs)) - 1) (b ∷ bs)
 
--- the first Q, line 2 of both, is E of the zero block: what that hands to the cipher, where it is needed
+-- the first mask, line 2 of all figures, is E of the zero block: what that hands to the cipher, where it is needed
 abbrev pub qInputs : Bool → List (List ℕ)
 qInputs true = zeros 16 ∷ []
 qInputs false = []

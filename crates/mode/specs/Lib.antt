@@ -1,4 +1,5 @@
 pub mod Form
+pub mod Edition
 pub mod Masks
 pub mod Message
 pub mod Data

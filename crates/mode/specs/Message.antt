@@ -1,6 +1,7 @@
 -- The message pass (document 01; source document 000, Fig. 1, EF), over any cipher E and any masks. Fig. 3's EF-S is the same behind U;
--- what is line n here is its line n + 1, from line 3 on. Beside what a step gives stand its inputs: the blocks that it hands to the
--- cipher, in their order (document 02, wish 6).
+-- what is line n here is its line n + 1, from line 3 on. EF in Fig. 1 of source document 003 is the same with other masks, and sets B,
+-- its L*, in lines 10 and 16 already. Beside what a step gives stand its inputs: the blocks that it hands to the cipher, in their order
+-- (document 02, wish 6).
 use mathlib.Core.Bool.{Bool, true, false}
 use mathlib.Core.List.{List, [], _∷_, _++_}
 use Prim.Native.Nat.{ℕ, zero, suc, _+_, _-_, _*_, _/_, _%_, max}

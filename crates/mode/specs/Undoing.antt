@@ -8,7 +8,7 @@ use Rattle.lists.specs.Same.{same}
 use Rattle.lists.specs.Xor.{xor}
 use Rattle.lists.specs.Zeros.{zeros}
 use Rattle.block.specs.Block.{pad}
-use Rattle.mode.specs.Form.{Form}
+use Rattle.mode.specs.Edition.{Edition}
 use Rattle.mode.specs.Masks.{Masks}
 use Rattle.mode.specs.Message.{pairsOf, even, rest, oneInputs, half, halfInputs, pairs, pairsInputs, l, r, teInput}
 use Rattle.mode.specs.Data.{qInputs, withData}
@@ -64,9 +64,9 @@ module _ (E : List ℕ → List ℕ) (k : Masks) (a : List ℕ) (t : ℕ) where
   unfoldable pub opened : List ℕ → Opened
   opened s = answer (same (tag E k a t (plain s)) (drop (length s - t) s)) (plain s)
 
--- what a call of v3.1 finds, over any cipher E and any first Q, q: form, nonce, associated data, tag length, sealed string; and the
--- blocks that it hands to the cipher with q at hand
-module _ (E : List ℕ → List ℕ) (q : List ℕ) (f : Form) (nonce ad : List ℕ) (t : ℕ) where
+-- what a call finds, over any cipher E and any first mask of the data pass, q: edition and form, nonce, associated data, tag length,
+-- sealed string; and the blocks that it hands to the cipher with q at hand
+module _ (E : List ℕ → List ℕ) (q : List ℕ) (f : Edition) (nonce ad : List ℕ) (t : ℕ) where
   abbrev pub foundFrom : List ℕ → Opened
   foundFrom s = opened E (masks E q f nonce ad t) (added E q f nonce ad t) t s
 
@@ -74,8 +74,8 @@ module _ (E : List ℕ → List ℕ) (q : List ℕ) (f : Form) (nonce ad : List 
   foundFromInputs s = callInputs E q f nonce ad t ++ undoneInputs E (masks E q f nonce ad t) (take (length s - t) s)
 
 -- the same from a cipher alone
-abbrev pub found : (List ℕ → List ℕ) → Form → List ℕ → List ℕ → ℕ → List ℕ → Opened
+abbrev pub found : (List ℕ → List ℕ) → Edition → List ℕ → List ℕ → ℕ → List ℕ → Opened
 found E f nonce ad t s = foundFrom E (E (zeros 16)) f nonce ad t s
 
-abbrev pub foundInputs : (List ℕ → List ℕ) → Form → List ℕ → List ℕ → ℕ → List ℕ → List (List ℕ)
+abbrev pub foundInputs : (List ℕ → List ℕ) → Edition → List ℕ → List ℕ → ℕ → List ℕ → List (List ℕ)
 foundInputs E f nonce ad t s = qInputs (withData ad) ++ foundFromInputs E (E (zeros 16)) f nonce ad t s

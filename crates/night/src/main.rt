@@ -5,8 +5,8 @@
 //     night parts PART_BYTES KEY_BYTES MESSAGE_BYTES CALLS
 //     night idle FEEDS KEY_BYTES MESSAGE_BYTES CALLS
 //
-// The form is parallel, the nonce has 12 bytes, the data 16 and the tag 16. Byte i of each string is (7 i + 3) mod 256, as in
-// bench/case.rs. A key is prepared once, before the calls. In parts a call is a session, with a sealer of its own: `parts` feeds it
+// The edition is 3, the form parallel; the nonce has 12 bytes, the data 16 and the tag 16. Byte i of each string is (7 i + 3) mod 256, as
+// in bench/case.rs. A key is prepared once, before the calls. In parts a call is a session, with a sealer of its own: `parts` feeds it
 // PART_BYTES bytes at a time, and in the end what is left; `idle` feeds it the message at once, and then no bytes FEEDS times, so that
 // what a feed costs by itself can be told. The answer is the line `NUMBER LENGTH RUNS TAG` of the last call, where TAG is the last 16
 // bytes of the output, in hexadecimal, all 00 where nothing was written. For a session it is the line of the one call: lengths and runs
@@ -19,6 +19,8 @@ ghost use lib.ListN.{length};
 use digits::Parsed;
 use libc::STDERR_FILENO;
 use libc::STDOUT_FILENO;
+
+const EDITION: usize = 3;
 
 const PARALLEL: usize = 0;
 
@@ -173,7 +175,7 @@ fn seal_raw(
     let mut answer = link::Answer::Done { length: 0, runs: 0 };
     let mut left = calls;
     while left > 0 {
-        answer = link::seal(PARALLEL, key, nonce, data, message, TAG_BYTES, out);
+        answer = link::seal(EDITION, PARALLEL, key, nonce, data, message, TAG_BYTES, out);
         left -= 1;
     }
     answer
@@ -192,7 +194,16 @@ fn seal_prepared(
     let mut answer = preparation.answer;
     let mut left = calls;
     while left > 0 {
-        answer = link::seal_with(PARALLEL, record, nonce, data, message, TAG_BYTES, out);
+        answer = link::seal_with(
+            EDITION,
+            PARALLEL,
+            record,
+            nonce,
+            data,
+            message,
+            TAG_BYTES,
+            out,
+        );
         left -= 1;
     }
     answer

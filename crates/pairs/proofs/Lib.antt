@@ -1,2 +1,3 @@
 pub mod Cipher
+pub mod Carried
 pub mod Steps

@@ -8,29 +8,20 @@ use lib.ListN.{length}
 use Rattle.lists.specs.Lay.{lay}
 use Rattle.lists.proofs.Laid.{lay-lay}
 use Rattle.block.specs.Block.{double}
-use Rattle.mode.specs.Masks.{Masks, IsCipher, AreMasks, doubles, doubled}
+use Rattle.mode.specs.Masks.{Masks, IsCipher, AreMasks, doubles}
 use Rattle.mode.specs.Message.{block, pair, pairs}
 use Rattle.mode.proofs.Pairs.{here, pairs-step, length-pairs, length-here}
-use Rattle.mode.proofs.Third.{doubled-masks}
 
 pub doubles-step : (i : ℕ) (x : List ℕ) → double (doubles i x) ≡ doubles (i + 1) x
 unfolding doubles
 doubles-step i x = sym (ap (λ (j : ℕ). doubles j x) (add-one i))
 
--- ---- the pairs of m into out, from the masks l and r on
-module _ (E : List ℕ → List ℕ) (e : IsCipher E) (l r : List ℕ) (hl : length l ≡ 16) (hr : length r ≡ 16) (m out : List ℕ) where
-  k : Masks
-  k = doubled l r
-
-  s : AreMasks k
-  unfolding k
-  s = doubled-masks l r hl hr
-
+-- ---- the pairs of m into out
+module _ (E : List ℕ → List ℕ) (e : IsCipher E) (k : Masks) (s : AreMasks k) (m out : List ℕ) where
   -- one pair more, with the masks L and R that it has, where it stands at places p and q
   pub laid-more : (i p q : ℕ) (L R now : List ℕ) → p ≡ 32 * i → q ≡ 32 * i + 16 → 32 * i + 32 ≤ length m → 32 * i + 32 ≤ length out
-      → L ≡ doubles i l → R ≡ doubles i r → now ≡ lay 0 (pairs E (doubled l r) i m) out
-      → lay p (pair E L R (block m p) (block m q)) now ≡ lay 0 (pairs E (doubled l r) (i + 1) m) out
-  unfolding k
+      → L ≡ k .left i → R ≡ k .right i → now ≡ lay 0 (pairs E k i m) out
+      → lay p (pair E L R (block m p) (block m q)) now ≡ lay 0 (pairs E k (i + 1) m) out
   laid-more i p q L R now hp hq hm ho hL hR is =
       let long : length (pairs E k i m) ≡ 32 * i = length-pairs E e k s i m (omega arith) in
       let place : 32 * i ≡ 0 + length (pairs E k i m) = omega arith in

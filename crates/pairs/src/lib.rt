@@ -9,8 +9,11 @@ ghost use Rattle.lists.specs.Lay.{lay};
 ghost use Rattle.tables.specs.Joined.{joined};
 ghost use Rattle.aes.specs.Cipher.{cipher};
 ghost use Rattle.block.specs.Wide.{bytesOf};
-ghost use Rattle.mode.specs.Masks.{doubles, doubled};
+ghost use Rattle.lists.specs.Xor.{xor};
+ghost use Rattle.block.specs.Block.{double};
+ghost use Rattle.mode.specs.Masks.{Masks};
 ghost use Rattle.mode.specs.Message.{pairsOf as countOf, block as blockOf, half as halfOf, halfInputs, pair as pairOf, pairInputs, pairs as pairsOf, pairsInputs, sum as sumOf};
+ghost use Rattle.pairs.specs.Carries.{Carries};
 
 // A block, and how many times the cipher ran for it.
 pub struct Ran {
@@ -191,13 +194,22 @@ fn after_pairs(left: [u64; 2], right: [u64; 2], runs: usize) -> AfterPairs
     }
 }
 
-// The first n pairs of src into out, from the masks l and r on.
+// The mask of the next pair.
+fn next_mask(x: [u64; 2], a: [u64; 2]) -> [u64; 2]
+    ensures { λ r. ⌜ bytesOf r ≡ xor (double (bytesOf x)) (bytesOf a) ⌝ }
+{
+    block::xor_words(block::double_words(x), a)
+}
+
+// The first n pairs of src into out, with any masks k that begin with l and r, and have a and b XORed in once they are doubled.
 pub fn pairs(
     table: &[u32; 1024],
     w: &[u8; 240],
     nr: usize,
     l: [u8; 16],
+    a: [u8; 16],
     r: [u8; 16],
+    b: [u8; 16],
     src: &[u8],
     n: usize,
     out: &mut [u8],
@@ -205,30 +217,32 @@ pub fn pairs(
     requires { ⌜ now table ≡ joined ⌝ }
     requires { ⌜ (10 ≤ nr) × (nr ≤ 14) ⌝ }
     requires { ⌜ (32 * n ≤ length (now src)) × (32 * n ≤ length (now out)) ⌝ }
-    ensures { λ a. ⌜ now (out .exit) ≡ lay 0 (pairsOf (cipher nr (now (w .entry))) (doubled l r) n (now (src .entry))) (now (out .entry)) ⌝ }
-    ensures { λ a. ⌜ (a .left ≡ doubles n l) × (a .right ≡ doubles n r) ⌝ }
-    ensures { λ a. ⌜ a .runs ≡ length (pairsInputs (cipher nr (now (w .entry))) (doubled l r) n (now (src .entry))) ⌝ }
+    ensures { λ c. ⌜ ((k : Masks) → Carries k l a r b → now (out .exit) ≡ lay 0 (pairsOf (cipher nr (now (w .entry))) k n (now (src .entry))) (now (out .entry))) ⌝ }
+    ensures { λ c. ⌜ ((k : Masks) → Carries k l a r b → (c .left ≡ k .left n) × (c .right ≡ k .right n)) ⌝ }
+    ensures { λ c. ⌜ ((k : Masks) → c .runs ≡ length (pairsInputs (cipher nr (now (w .entry))) k n (now (src .entry)))) ⌝ }
 {
+    let left_step = block::to_words(a);
+    let right_step = block::to_words(b);
     let mut left = block::to_words(l);
     let mut right = block::to_words(r);
     let mut runs: usize = 0;
     let mut i = 0;
     while i + 1 < n {
-        let next_l = block::double_words(left);
-        let next_r = block::double_words(right);
+        let next_l = next_mask(left, left_step);
+        let next_r = next_mask(right, right_step);
         let two = two_pairs(table, w, nr, left, right, next_l, next_r, src, 32 * i, out);
-        let a = block::double_words(next_l);
-        let b = block::double_words(next_r);
-        left = a;
-        right = b;
+        let x = next_mask(next_l, left_step);
+        let y = next_mask(next_r, right_step);
+        left = x;
+        right = y;
         runs += two;
         i += 2;
     }
     if i < n {
         let one = pair(table, w, nr, left, right, src, 32 * i, out);
-        let a = block::double_words(left);
-        let b = block::double_words(right);
-        return after_pairs(a, b, runs + one);
+        let x = next_mask(left, left_step);
+        let y = next_mask(right, right_step);
+        return after_pairs(x, y, runs + one);
     }
     after_pairs(left, right, runs)
 }

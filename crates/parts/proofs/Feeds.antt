@@ -17,7 +17,7 @@ use Rattle.mode.specs.Feeding.{fedBytes, fedInputs}
 use Rattle.mode.proofs.Counts.{pairs-are}
 use Rattle.mode.proofs.Pairs.{length-pairs}
 use Rattle.mode.proofs.Data.{length-doubles}
-use Rattle.mode.proofs.Third.{doubled-masks}
+use Rattle.mode.proofs.Otr.{doubled-masks}
 use Rattle.mode.proofs.Runs.{length-pairsInputs}
 use Rattle.mode.proofs.Front.{sum-front, pairs-front}
 use Rattle.mode.proofs.Feeding.{sum-add, pairs-add, doubles-add, from-doubled}

@@ -1,5 +1,5 @@
-// The message pass in parts (document 02, wish 3), on arrays and slices: a part fed, and the end. w is the flat array of an expanded key,
-// nr its round count, and table the four joined tables. In the contracts the cipher E is `cipher nr (now w)`.
+// The message pass of v3.1 in parts (document 02, wish 3), on arrays and slices: a part fed, and the end. w is the flat array of an
+// expanded key, nr its round count, and table the four joined tables. In the contracts the cipher E is `cipher nr (now w)`.
 ghost use mathlib.Core.Path.{_≡_};
 ghost use mathlib.Core.List.{_++_};
 ghost use Prim.Native.Nat.{_+_, _*_, _≤_};
@@ -73,7 +73,8 @@ fn next_pairs(
     ensures { λ a. ⌜ (a .left ≡ doubles n l) × ((a .right ≡ doubles n r) × (a .sum ≡ xor s (sumOf n (now (src .entry))))) ⌝ }
     ensures { λ a. ⌜ a .runs ≡ length (pairsInputs (cipher nr (now (w .entry))) (doubled l r) n (now (src .entry))) ⌝ }
 {
-    let after = pairs::pairs(table, w, nr, l, r, src, n, out);
+    let none = block::zeros();
+    let after = pairs::pairs(table, w, nr, l, none, r, none, src, n, out);
     let left = after.left;
     let right = after.right;
     Behind {
@@ -212,7 +213,8 @@ pub fn end(
     let kept = state.kept;
     let rest = ends::seal_rest(table, w, nr, l, r, &kept[..held], 0, out);
     let e = rest.block;
-    let te = ends::te(table, w, nr, l, r, held, block::xor(s, e));
+    // whatever U is: v3.1's final mask goes by the masks alone
+    let te = ends::te(3, l, table, w, nr, l, r, held, block::xor(s, e));
     let b = te.block;
     let x = block::xor(b, added);
     lists::lay(out, held, &x[..t]);

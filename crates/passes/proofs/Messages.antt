@@ -1,5 +1,5 @@
--- The message pass as the code puts it together, with the number of pairs n and the masks L and R that it has computed. Assumes
--- nothing.
+-- The message pass as the code puts it together, over any cipher and any masks, with the number of pairs n and the masks L and R that it
+-- has computed. Assumes nothing.
 use mathlib.Core.Path.{_≡_, refl, sym, ap, ap₂, subst, _∙_}
 use mathlib.Core.Bool.{Bool}
 use mathlib.Core.List.{List, _++_}
@@ -10,8 +10,7 @@ use lib.ListN.{length, drop, length-drop}
 use Rattle.lists.specs.Lay.{lay}
 use Rattle.lists.specs.Xor.{xor}
 use Rattle.lists.proofs.Laid.{lay-lay}
-use Rattle.block.specs.Block.{triple}
-use Rattle.mode.specs.Masks.{Masks, IsCipher, AreMasks, doubles, doubled, third}
+use Rattle.mode.specs.Masks.{Masks, IsCipher, AreMasks}
 use Rattle.mode.specs.Message.{pairsOf, even, rest, lastLength, sum, base, final, pairs, ending, endSum, l, r, body, te}
 use Rattle.mode.specs.Undoing.{swapped, unending, undoneSum, unbody}
 use Rattle.mode.proofs.Counts.{pairs-are, pairs-within, even-is, even-left}
@@ -20,7 +19,6 @@ use Rattle.mode.proofs.Ends.{Remains, length-ending, length-unending}
 use Rattle.mode.proofs.Walk.{remains}
 use Rattle.mode.proofs.Front.{sum-front}
 use Rattle.mode.proofs.Parts.{teOf, body-parts, te-parts, unbody-parts, te-undone}
-use Rattle.ends.proofs.Final.{final-same}
 
 -- ---- how often the cipher runs
 module _ (m : List ℕ) (n : ℕ) (hn : n ≡ pairsOf (length m)) where
@@ -41,22 +39,17 @@ behind p x out n h fits =
     let place : 32 * n ≡ 0 + length p = omega arith in
     ap (λ (i : ℕ). lay i x (lay 0 p out)) place ∙ lay-lay 0 p x out (omega arith)
 
-module _ (E : List ℕ → List ℕ) (e : IsCipher E) (u : List ℕ) (s : AreMasks (third u)) (m out : List ℕ) (n : ℕ) (L R : List ℕ)
+module _ (E : List ℕ → List ℕ) (e : IsCipher E) (k : Masks) (s : AreMasks k) (m out : List ℕ) (n : ℕ) (L R : List ℕ)
     (hn : n ≡ pairsOf (length m))
-    (hL : L ≡ doubles n u)
-    (hR : R ≡ doubles n (triple u))
+    (hL : L ≡ k .left n)
+    (hR : R ≡ k .right n)
     (fits : length m ≤ length out) where
-  k : Masks
-  k = third u
-
   -- the computed ones are those of the definition
   hl : L ≡ l E k m
-  unfolding k
-  hl = hL ∙ ap (λ (i : ℕ). doubles i u) hn
+  hl = hL ∙ ap (k .left) hn
 
   hr : R ≡ r E k m
-  unfolding k
-  hr = hR ∙ ap (λ (i : ℕ). doubles i (triple u)) hn
+  hr = hR ∙ ap (k .right) hn
 
   two : ltb (32 * n + 16) (length m) ≡ even (length m)
   two = ap (λ (i : ℕ). ltb (32 * i + 16) (length m)) hn ∙ sym (even-is (length m))
@@ -85,47 +78,42 @@ module _ (E : List ℕ → List ℕ) (e : IsCipher E) (u : List ℕ) (s : AreMas
       (length-pairs E e j sj (pairsOf (length m)) m (pairs-within (length m)))
       (omega (arith, long, length-drop (32 * pairsOf (length m)) m, pairs-within (length m)))
 
-  pub sealed-laid : lay (32 * n) (ending E (ltb (32 * n + 16) (length m)) L R (drop (32 * n) m)) (lay 0 (pairs E (third u) n m) out)
-      ≡ lay 0 (body E (third u) m) out
-  unfolding k laid
+  pub sealed-laid : lay (32 * n) (ending E (ltb (32 * n + 16) (length m)) L R (drop (32 * n) m)) (lay 0 (pairs E k n m) out)
+      ≡ lay 0 (body E k m) out
+  unfolding laid
   sealed-laid =
       all-laid (ending E) k s
       (length-ending E e (l E k m) (r E k m) (s .left (pairsOf (length m))) (s .right (pairsOf (length m))) (even (length m)) (rest m) (remains m))
       ∙ ap (λ (x : List ℕ). lay 0 x out) (sym (body-parts E k (even (length m)) m refl))
 
-  pub undone-laid : lay (32 * n) (unending E (ltb (32 * n + 16) (length m)) L R (drop (32 * n) m)) (lay 0 (pairs E (doubled (triple u) u) n m) out)
-      ≡ lay 0 (unbody E (third u) m) out
-  unfolding k laid
+  pub undone-laid : lay (32 * n) (unending E (ltb (32 * n + 16) (length m)) L R (drop (32 * n) m)) (lay 0 (pairs E (swapped k) n m) out)
+      ≡ lay 0 (unbody E k m) out
+  unfolding laid
   undone-laid =
       all-laid (unending E) (swapped k) (swapped-masks s)
       (length-unending E e (l E k m) (r E k m) (s .left (pairsOf (length m))) (s .right (pairsOf (length m))) (even (length m)) (rest m) (remains m))
       ∙ ap (λ (x : List ℕ). lay 0 x out) (sym (unbody-parts E e k s (even (length m)) m refl))
 
   -- TE of a sum S and an end X
-  te-with : (S X : List ℕ) → E (xor (final (third L) (ltb (lastLength (ltb 16 (length m - 32 * n)) (length m - 32 * n)) 16) (base (ltb 16 (length m - 32 * n)) L R)) (xor S X))
+  te-with : (S X : List ℕ) → E (xor (final k (ltb (lastLength (ltb 16 (length m - 32 * n)) (length m - 32 * n)) 16) (base (ltb 16 (length m - 32 * n)) L R)) (xor S X))
       ≡ teOf E k (even (length m)) (length (rest m)) (pairsOf (length m)) S X
-  unfolding k
   te-with S X =
-      ap (λ (x : List ℕ). E (xor x (xor S X)))
-      (final-same L u (ltb (lastLength (ltb 16 (length m - 32 * n)) (length m - 32 * n)) 16) (base (ltb 16 (length m - 32 * n)) L R))
-      ∙ ap₂ (λ (t : Bool) (d : ℕ). E (xor (final k (ltb (lastLength t d) 16) (base t L R)) (xor S X))) two-left left
+      ap₂ (λ (t : Bool) (d : ℕ). E (xor (final k (ltb (lastLength t d) 16) (base t L R)) (xor S X))) two-left left
       ∙ ap₂ (λ (a b : List ℕ). E (xor (final k (ltb (lastLength (even (length m)) (length (rest m))) 16) (base (even (length m)) a b)) (xor S X))) hl hr
 
   pub te-sealed : (S X : List ℕ) → S ≡ sum n m → X ≡ endSum E (ltb (32 * n + 16) (length m)) L (drop (32 * n) m)
-      → E (xor (final (third L) (ltb (lastLength (ltb 16 (length m - 32 * n)) (length m - 32 * n)) 16) (base (ltb 16 (length m - 32 * n)) L R)) (xor S X))
-      ≡ te E (third u) m
-  unfolding k
+      → E (xor (final k (ltb (lastLength (ltb 16 (length m - 32 * n)) (length m - 32 * n)) 16) (base (ltb 16 (length m - 32 * n)) L R)) (xor S X))
+      ≡ te E k m
   te-sealed S X hS hX =
       te-with S X
       ∙ ap₂ (teOf E k (even (length m)) (length (rest m)) (pairsOf (length m))) (hS ∙ ap (λ (i : ℕ). sum i m) hn)
       (hX ∙ ap₂ (λ (t : Bool) (a : List ℕ). endSum E t a (drop (32 * n) m)) two hl ∙ ap (λ (i : ℕ). endSum E (even (length m)) (l E k m) (drop (32 * i) m)) hn)
       ∙ sym (te-parts E k (even (length m)) m refl)
 
-  pub te-opened : (S X : List ℕ) → S ≡ sum n (lay 0 (pairs E (doubled (triple u) u) n m) out)
+  pub te-opened : (S X : List ℕ) → S ≡ sum n (lay 0 (pairs E (swapped k) n m) out)
       → X ≡ undoneSum E (ltb (32 * n + 16) (length m)) L R (drop (32 * n) m)
-      → E (xor (final (third L) (ltb (lastLength (ltb 16 (length m - 32 * n)) (length m - 32 * n)) 16) (base (ltb 16 (length m - 32 * n)) L R)) (xor S X))
-      ≡ te E (third u) (unbody E (third u) m)
-  unfolding k
+      → E (xor (final k (ltb (lastLength (ltb 16 (length m - 32 * n)) (length m - 32 * n)) 16) (base (ltb 16 (length m - 32 * n)) L R)) (xor S X))
+      ≡ te E k (unbody E k m)
   te-opened S X hS hX =
       te-with S X
       ∙ ap₂ (teOf E k (even (length m)) (length (rest m)) (pairsOf (length m)))

@@ -1,15 +1,15 @@
-// The passes of AES-OTR v3.1 under a prepared key: nr is its round count, w the flat array of its round keys, and q its first mask, the
-// first Q of the data pass (document 02, wish 9); table are the four joined tables, which are lent to what runs the cipher. In the
-// contracts the cipher E is `cipher nr (now w)`. What comes before the message pass is `associated`, its pairs are `pairs`, its last
-// blocks and TE `ends`. What runs the cipher says how many times it did (wish 6): each of its calls is counted where it stands, and the
-// sum is formed here, where passes meet.
+// The passes of AES-OTR under a prepared key, in the edition and form with these numbers: nr is the key's round count, w the flat array
+// of its round keys, and q its first mask, that of the data pass (document 02, wish 9); table are the four joined tables, which are lent
+// to what runs the cipher. In the contracts the cipher E is `cipher nr (now w)`. What comes before the message pass is `associated`, its
+// pairs are `pairs`, its last blocks and TE `ends`. What runs the cipher says how many times it did (wish 6): each of its calls is
+// counted where it stands, and the sum is formed here, where passes meet.
 ghost use mathlib.Core.Path.{_≡_};
 ghost use Prim.Native.Nat.{_+_, _-_, _≤_};
 ghost use lib.ListN.{length};
 ghost use Rattle.lists.specs.Lay.{lay};
 ghost use Rattle.tables.specs.Joined.{joined};
 ghost use Rattle.aes.specs.Cipher.{cipher};
-ghost use Rattle.mode.specs.Form.{formOf};
+ghost use Rattle.mode.specs.Edition.{editionOf};
 ghost use Rattle.mode.specs.Sealing.{otrFrom, fromInputs};
 ghost use Rattle.mode.specs.Undoing.{foundFrom, foundFromInputs};
 ghost use Rattle.passes.specs.Shown.{shown, flag};
@@ -26,6 +26,7 @@ pub struct Opening {
 // Seals the message m with nonce n and associated data a into out: the ciphertext, and t bytes of tag behind it. Says how many times
 // the cipher ran.
 pub fn seal(
+    edition: usize,
     form: usize,
     table: &[u32; 1024],
     w: &[u8; 240],
@@ -41,13 +42,13 @@ pub fn seal(
     requires { ⌜ (10 ≤ nr) × (nr ≤ 14) ⌝ }
     requires { ⌜ (1 ≤ length (now n)) × ((length (now n) ≤ 15) × (t ≤ 16)) ⌝ }
     requires { ⌜ length (now m) + t ≤ length (now out) ⌝ }
-    ensures { λ _. ⌜ now (out .exit) ≡ lay 0 (otrFrom (cipher nr (now (w .entry))) q (formOf form) (now (n .entry)) (now (a .entry)) t (now (m .entry))) (now (out .entry)) ⌝ }
-    ensures { λ r. ⌜ r ≡ length (fromInputs (cipher nr (now (w .entry))) q (formOf form) (now (n .entry)) (now (a .entry)) t (now (m .entry))) ⌝ }
+    ensures { λ _. ⌜ now (out .exit) ≡ lay 0 (otrFrom (cipher nr (now (w .entry))) q (editionOf edition form) (now (n .entry)) (now (a .entry)) t (now (m .entry))) (now (out .entry)) ⌝ }
+    ensures { λ r. ⌜ r ≡ length (fromInputs (cipher nr (now (w .entry))) q (editionOf edition form) (now (n .entry)) (now (a .entry)) t (now (m .entry))) ⌝ }
 {
-    let with = associated::seals_with(form, table, w, nr, q, n, a, t);
+    let with = associated::seals_with(edition, form, table, w, nr, q, n, a, t);
     let u = with.u;
     let added = with.added;
-    let pass = message::seal(table, w, nr, u, m, out);
+    let pass = message::seal(edition, table, w, nr, u, m, out);
     let te = pass.block;
     let x = block::xor(te, added);
     lists::lay(out, m.len(), &x[..t]);
@@ -56,6 +57,7 @@ pub fn seal(
 
 // Opens s, whose last t bytes are the tag, into out, and says whether the tag matches. Where it does not, the message is cleared.
 pub fn open(
+    edition: usize,
     form: usize,
     table: &[u32; 1024],
     w: &[u8; 240],
@@ -71,15 +73,15 @@ pub fn open(
     requires { ⌜ (10 ≤ nr) × (nr ≤ 14) ⌝ }
     requires { ⌜ (1 ≤ length (now n)) × ((length (now n) ≤ 15) × (t ≤ 16)) ⌝ }
     requires { ⌜ (t ≤ length (now s)) × (length (now s) - t ≤ length (now out)) ⌝ }
-    ensures { λ r. ⌜ r .matches ≡ flag (foundFrom (cipher nr (now (w .entry))) q (formOf form) (now (n .entry)) (now (a .entry)) t (now (s .entry))) ⌝ }
-    ensures { λ _. ⌜ now (out .exit) ≡ shown (foundFrom (cipher nr (now (w .entry))) q (formOf form) (now (n .entry)) (now (a .entry)) t (now (s .entry))) (length (now (s .entry)) - t) (now (out .entry)) ⌝ }
-    ensures { λ r. ⌜ r .runs ≡ length (foundFromInputs (cipher nr (now (w .entry))) q (formOf form) (now (n .entry)) (now (a .entry)) t (now (s .entry))) ⌝ }
+    ensures { λ r. ⌜ r .matches ≡ flag (foundFrom (cipher nr (now (w .entry))) q (editionOf edition form) (now (n .entry)) (now (a .entry)) t (now (s .entry))) ⌝ }
+    ensures { λ _. ⌜ now (out .exit) ≡ shown (foundFrom (cipher nr (now (w .entry))) q (editionOf edition form) (now (n .entry)) (now (a .entry)) t (now (s .entry))) (length (now (s .entry)) - t) (now (out .entry)) ⌝ }
+    ensures { λ r. ⌜ r .runs ≡ length (foundFromInputs (cipher nr (now (w .entry))) q (editionOf edition form) (now (n .entry)) (now (a .entry)) t (now (s .entry))) ⌝ }
 {
     let b = s.len() - t;
-    let with = associated::seals_with(form, table, w, nr, q, n, a, t);
+    let with = associated::seals_with(edition, form, table, w, nr, q, n, a, t);
     let u = with.u;
     let added = with.added;
-    let pass = message::open(table, w, nr, u, &s[..b], out);
+    let pass = message::open(edition, table, w, nr, u, &s[..b], out);
     let te = pass.block;
     let x = block::xor(te, added);
     let runs = with.runs + pass.runs;

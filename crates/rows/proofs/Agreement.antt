@@ -1,5 +1,6 @@
--- AES-OTR v3.1 with AES in the cipher's place, in both forms, computed and held to what the second program gives, its runs of the cipher too. Each row is computed
--- by itself, since together they pass what antt computes in one declaration; `rows` is the one claim. Assumes nothing.
+-- AES-OTR with AES in the cipher's place, in both editions and forms, computed and held to what the second program gives, its runs of the
+-- cipher too. Each row is computed by itself, since together they pass what antt computes in one declaration; `rows` is the one claim.
+-- Assumes nothing.
 use mathlib.Core.Path.{_≡_, refl, ap₂}
 use mathlib.Core.List.{List, _∷_, map, zipWith}
 use Prim.Native.Nat.{ℕ, _+_, _*_, _%_}
@@ -13,7 +14,7 @@ use Rattle.field.specs.Substitution.{affine, substitute}
 use Rattle.aes.specs.Cipher.{addRoundKey, round, lastRound, rounds, cipher}
 use Rattle.aes.specs.Expansion.{power, temp, next, words, keyExpansion, aes}
 use Rattle.block.specs.Block.{pad, shift, double}
-use Rattle.mode.specs.Form.{formOf}
+use Rattle.mode.specs.Edition.{editionOf}
 use Rattle.mode.specs.Masks.{doubles}
 use Rattle.mode.specs.Message.{blocks, pairsOf, even, short, sum, pairs, pairsInputs, body, bodyInputs, checksum, te}
 use Rattle.mode.specs.Data.{dataSum, sumInputs, chain, chainInputs, ta, taInputs}
@@ -23,18 +24,18 @@ use Rattle.rows.proofs.Expected.{Row, expected}
 
 -- byte i of the key is 17i + 2, of the message 7i + 3, of the data 11i + 5, of the nonce 13i + 1
 pub computed : Row → ℕ × List ℕ
-computed (f, key, m, a, k, t, n, x) =
+computed (e, f, key, m, a, k, t, n, x) =
     let E = aes (table (λ i. (17 * i + 2) % 256) key) in
     let nonce = table (λ i. (13 * i + 1) % 256) k in
     let ad = table (λ i. (11 * i + 5) % 256) a in
     let message = table (λ i. (7 * i + 3) % 256) m in
-    (length (otrInputs E (formOf f) nonce ad t message), otr E (formOf f) nonce ad t message)
+    (length (otrInputs E (editionOf e f) nonce ad t message), otr E (editionOf e f) nonce ad t message)
 
 pub given : Row → ℕ × List ℕ
-given (f, key, m, a, k, t, n, x) = (n, bytes (m + t) x)
+given (e, f, key, m, a, k, t, n, x) = (n, bytes (m + t) x)
 
 row-at : ℕ → Row
-row-at i = getD expected i (0, 0, 0, 0, 0, 0, 0, 0)
+row-at i = getD expected i (0, 0, 0, 0, 0, 0, 0, 0, 0)
 
 row-0 : computed (row-at 0) ≡ given (row-at 0)
 unfolding row-at computed given tableFrom xor zeros product inverse affine substitute addRoundKey round lastRound rounds cipher power temp next words keyExpansion aes pad shift double doubles blocks pairsOf even short sum pairs pairsInputs body bodyInputs checksum te dataSum sumInputs chain chainInputs ta taInputs zipWith format tag sealed sealedInputs
@@ -52,6 +53,14 @@ row-3 : computed (row-at 3) ≡ given (row-at 3)
 unfolding row-at computed given tableFrom xor zeros product inverse affine substitute addRoundKey round lastRound rounds cipher power temp next words keyExpansion aes pad shift double doubles blocks pairsOf even short sum pairs pairsInputs body bodyInputs checksum te dataSum sumInputs chain chainInputs ta taInputs zipWith format tag sealed sealedInputs
 row-3 = refl
 
+row-4 : computed (row-at 4) ≡ given (row-at 4)
+unfolding row-at computed given tableFrom xor zeros product inverse affine substitute addRoundKey round lastRound rounds cipher power temp next words keyExpansion aes pad shift double doubles blocks pairsOf even short sum pairs pairsInputs body bodyInputs checksum te dataSum sumInputs chain chainInputs ta taInputs zipWith format tag sealed sealedInputs
+row-4 = refl
+
+row-5 : computed (row-at 5) ≡ given (row-at 5)
+unfolding row-at computed given tableFrom xor zeros product inverse affine substitute addRoundKey round lastRound rounds cipher power temp next words keyExpansion aes pad shift double doubles blocks pairsOf even short sum pairs pairsInputs body bodyInputs checksum te dataSum sumInputs chain chainInputs ta taInputs zipWith format tag sealed sealedInputs
+row-5 = refl
+
 pub rows : map computed expected ≡ map given expected
 unfolding row-at
-rows = ap₂ _∷_ row-0 (ap₂ _∷_ row-1 (ap₂ _∷_ row-2 (ap₂ _∷_ row-3 refl)))
+rows = ap₂ _∷_ row-0 (ap₂ _∷_ row-1 (ap₂ _∷_ row-2 (ap₂ _∷_ row-3 (ap₂ _∷_ row-4 (ap₂ _∷_ row-5 refl)))))

@@ -9,6 +9,7 @@ use Rattle.lists.specs.Lay.{lay}
 use Rattle.lists.specs.Zeros.{zeros}
 use Rattle.aes.specs.Key.{expanded}
 use Rattle.mode.specs.Form.{formOf}
+use Rattle.mode.specs.Edition.{v3}
 use Rattle.mode.specs.Data.{qInputs, withData}
 use Rattle.mode.specs.Sealing.{callInputs}
 use Rattle.mode.specs.Feeding.{fedBytes, fedInputs, endBytes, endInputs}
@@ -25,8 +26,8 @@ StepBy (pass n) k bytes next s out r after = (r ≡ record { answer = Done n k; 
 StepBy (stop c) k bytes next s out r after = (r ≡ record { answer = c; sealer = s }) × (after ≡ out)
 
 module _ (C : ℕ → List ℕ → List ℕ → List ℕ) where
-  -- ---- beginning: checks 8 and 1 to 4, and a sealer that was fed nothing. The blocks handed to the cipher are those of a call before its
-  -- message pass
+  -- ---- beginning, in edition 3: checks 8 and 1 to 4, and a sealer that was fed nothing. The blocks handed to the cipher are those of a
+  -- call before its message pass
   abbrev pub keyed : List ℕ → List ℕ → List ℕ
   keyed key = C (expanded key .rounds) (expanded key .words)
 
@@ -37,7 +38,7 @@ module _ (C : ℕ → List ℕ → List ℕ → List ℕ) where
   abbrev pub beginRuns : ℕ → List ℕ → List ℕ → List ℕ → ℕ → ℕ
   beginRuns form key nonce ad t =
       let E = keyed key in
-      length (qInputs (withData ad) ++ callInputs E (E (zeros 16)) (formOf form) nonce ad t)
+      length (qInputs (withData ad) ++ callInputs E (E (zeros 16)) (v3 (formOf form)) nonce ad t)
 
   abbrev pub beginBy : Check → ℕ → List ℕ → List ℕ → List ℕ → ℕ → Step
   beginBy (pass n) form key nonce ad t =
@@ -46,7 +47,7 @@ module _ (C : ℕ → List ℕ → List ℕ → List ℕ) where
 
   unfoldable pub beginning : ℕ → List ℕ → List ℕ → List ℕ → ℕ → Step
   beginning form key nonce ad t =
-      beginBy (callCheck form (knownKey (length key)) (length nonce) t (length ad) (pass 0)) form key nonce ad t
+      beginBy (callCheck 3 form (knownKey (length key)) (length nonce) t (length ad) (pass 0)) form key nonce ad t
 
   -- ---- feeding the part x: the pairs that are due come out
   unfoldable pub Feeds : Sealer → List ℕ → List ℕ → Step → List ℕ → Type 0

@@ -7,6 +7,7 @@ use lib.ListN.{length}
 use Rattle.lists.specs.Zeros.{zeros}
 use Rattle.block.specs.Block.{triple}
 use Rattle.mode.specs.Form.{formOf}
+use Rattle.mode.specs.Edition.{v3}
 use Rattle.mode.specs.Message.{pairsOf}
 use Rattle.mode.specs.Sealing.{u, added}
 use Rattle.mode.specs.Feeding.{Between, keeps}
@@ -33,12 +34,12 @@ begunBy E q nr w form nonce ad t =
       words = w;
       state =
           record {
-            left = u E q (formOf form) nonce ad t;
-            right = triple (u E q (formOf form) nonce ad t);
+            left = u E q (v3 (formOf form)) nonce ad t;
+            right = triple (u E q (v3 (formOf form)) nonce ad t);
             sum = zeros 16;
             kept = zeros 32;
           };
-      added = added E q (formOf form) nonce ad t;
+      added = added E q (v3 (formOf form)) nonce ad t;
       tag = t;
       fed = 0;
     }

@@ -1,12 +1,13 @@
-// Sealing in parts (document 02, wish 3): a sealer is begun, is fed the message part by part, and is ended. It goes by value: each call
-// takes the sealer and hands back the one for the next. No call asks anything of its caller, whatever the sealer holds; what they
-// promise is in specs/Promises.antt. There is no opening in parts: plaintext is never handed out before the tag.
+// Sealing in parts (document 02, wish 3), in edition 3 alone (wish 7): a sealer is begun, is fed the message part by part, and is ended.
+// It goes by value: each call takes the sealer and hands back the one for the next. No call asks anything of its caller, whatever the
+// sealer holds; what they promise is in specs/Promises.antt. There is no opening in parts: plaintext is never handed out before the tag.
 ghost use mathlib.Core.Path.{_≡_};
 ghost use Prim.Native.Nat.{_+_, _*_, _≤_};
 ghost use lib.ListN.{length};
 ghost use Rattle.tables.specs.Joined.{joined};
 ghost use Rattle.aes.specs.Cipher.{cipher};
 ghost use Rattle.mode.specs.Form.{formOf};
+ghost use Rattle.mode.specs.Edition.{v3};
 ghost use Rattle.mode.specs.Sealing.{callInputs};
 ghost use Rattle.mode.specs.Message.{pairsOf};
 ghost use Rattle.mode.specs.Feeding.{keeps, fedBytes, fedInputs, endBytes, endInputs};
@@ -68,7 +69,7 @@ pub fn begin(form: usize, key: &[u8], nonce: &[u8], ad: &[u8], tag: usize) -> St
     ensures { λ r. ⌜ r ≡ beginning cipher form (now (key .entry)) (now (nonce .entry)) (now (ad .entry)) tag ⌝ }
 {
     let known = link::known_key(key.len());
-    let answer = link::call_check(form, known, nonce.len(), tag, ad.len());
+    let answer = link::call_check(3, form, known, nonce.len(), tag, ad.len());
     if link::number(answer) != 0 {
         let none = ended();
         return Step {
@@ -96,12 +97,12 @@ fn start(
     requires { ⌜ (10 ≤ key .rounds) × (key .rounds ≤ 14) ⌝ }
     requires { ⌜ (1 ≤ length (now nonce)) × ((length (now nonce) ≤ 15) × (tag ≤ 16)) ⌝ }
     requires { ⌜ (length (now ad) ≤ 4096) × (before ≤ 1) ⌝ }
-    ensures { λ r. ⌜ r ≡ record { answer = Done 0 (before + length (callInputs (cipherOf key) (key .zero) (formOf form) (now (nonce .entry)) (now (ad .entry)) tag)); sealer = begunBy (cipherOf key) (key .zero) (key .rounds) (key .words) form (now (nonce .entry)) (now (ad .entry)) tag } ⌝ }
+    ensures { λ r. ⌜ r ≡ record { answer = Done 0 (before + length (callInputs (cipherOf key) (key .zero) (v3 (formOf form)) (now (nonce .entry)) (now (ad .entry)) tag)); sealer = begunBy (cipherOf key) (key .zero) (key .rounds) (key .words) form (now (nonce .entry)) (now (ad .entry)) tag } ⌝ }
 {
     let nr = key.rounds;
     let w = key.words;
     let q = key.zero;
-    let with = associated::seals_with(form, tables, &key.words, nr, q, nonce, ad, tag);
+    let with = associated::seals_with(3, form, tables, &key.words, nr, q, nonce, ad, tag);
     let u = with.u;
     let added = with.added;
     let state = State {

@@ -10,8 +10,9 @@ use Rattle.lists.specs.Zeros.{zeros}
 use Rattle.aes.specs.Cipher.{cipher}
 use Rattle.aes.specs.Expansion.{aes}
 use Rattle.mode.specs.Form.{formOf}
+use Rattle.mode.specs.Edition.{v3}
 use Rattle.mode.specs.Sealing.{otr, otrInputs}
-use Rattle.mode.proofs.Third.{length-otr}
+use Rattle.mode.proofs.Otr.{length-otr}
 use Rattle.pairs.proofs.Cipher.{is-cipher}
 use Rattle.link.specs.Answers.{numberOf, lengthOf, runsOf}
 use Rattle.link.specs.Checks.{Check, pass, knownKey}
@@ -27,39 +28,39 @@ use Rattle.sessions.proofs.Sessions.{begun-with, any-session}
 
 module _ (form : ℕ) (key nonce ad : List ℕ) (t : ℕ) (yes : numberOf (beginning cipher form key nonce ad t .answer) ≡ 0) where
   pub session : (m o : List ℕ) (j : ℕ) (last : Sealer) → Session cipher (beginning cipher form key nonce ad t .sealer) m o j last
-      → Came (sealing form key nonce ad t) (sealRuns form key nonce ad t) m o (runsOf (beginning cipher form key nonce ad t .answer) + j) last
+      → Came (sealing 3 form key nonce ad t) (sealRuns 3 form key nonce ad t) m o (runsOf (beginning cipher form key nonce ad t .answer) + j) last
   session m o j last h =
-      subst (λ (E : List ℕ → List ℕ). Came (otr E (formOf form) nonce ad t) (λ n. length (otrInputs E (formOf form) nonce ad t n)) m o (runsOf (beginning cipher form key nonce ad t .answer) + j) last)
+      subst (λ (E : List ℕ → List ℕ). Came (otr E (v3 (formOf form)) nonce ad t) (λ n. length (otrInputs E (v3 (formOf form)) nonce ad t n)) m o (runsOf (beginning cipher form key nonce ad t .answer) + j) last)
       (cipher-is key (begun-with cipher is-cipher form key nonce ad t yes .0 .known))
       (any-session cipher is-cipher form key nonce ad t yes m o j last h)
 
   -- what one call wrote, where it was done
   module _ (m out : List ℕ) (r : Answer) (after : List ℕ) where
-    sealed-by : {c : Check} → Verdict (SealFits form (knownKey (length key)) (length nonce) t (length ad) (length m) (length out)) (length m + t) c
-        → SealsBy c (sealRuns form key nonce ad t m) (sealing form key nonce ad t m) out r after → numberOf r ≡ 0
-        → (take (lengthOf r) after ≡ sealing form key nonce ad t m) × (runsOf r ≡ sealRuns form key nonce ad t m)
+    sealed-by : {c : Check} → Verdict (SealFits 3 form (knownKey (length key)) (length nonce) t (length ad) (length m) (length out)) (length m + t) c
+        → SealsBy c (sealRuns 3 form key nonce ad t m) (sealing 3 form key nonce ad t m) out r after → numberOf r ≡ 0
+        → (take (lengthOf r) after ≡ sealing 3 form key nonce ad t m) × (runsOf r ≡ sealRuns 3 form key nonce ad t m)
     sealed-by (passes p e) h z =
-        let q : SealsBy (pass (length m + t)) (sealRuns form key nonce ad t m) (sealing form key nonce ad t m) out r after = subst (λ (c : Check). SealsBy c (sealRuns form key nonce ad t m) (sealing form key nonce ad t m) out r after) e h in
-        let long : length (sealing form key nonce ad t m) ≡ length m + t =
-        length-otr (aes key) (aes-cipher key) (aes key (zeros 16)) (formOf form) nonce ad t (aes-ta key (formOf form) ad) (p .0 .nonces .1) (p .0 .tags .1) m in (
+        let q : SealsBy (pass (length m + t)) (sealRuns 3 form key nonce ad t m) (sealing 3 form key nonce ad t m) out r after = subst (λ (c : Check). SealsBy c (sealRuns 3 form key nonce ad t m) (sealing 3 form key nonce ad t m) out r after) e h in
+        let long : length (sealing 3 form key nonce ad t m) ≡ length m + t =
+        length-otr (aes key) (aes-cipher key) (aes key (zeros 16)) (v3 (formOf form)) nonce ad t (aes-ta key (v3 (formOf form)) ad) (p .0 .nonces .1) (p .0 .tags .1) m in (
           ap₂ (λ (n : ℕ) (b : List ℕ). take n b) (ap lengthOf (q .0)) (q .1)
-              ∙ take-at (sealing form key nonce ad t m) (drop (0 + length (sealing form key nonce ad t m)) out) (length m + t) long,
+              ∙ take-at (sealing 3 form key nonce ad t m) (drop (0 + length (sealing 3 form key nonce ad t m)) out) (length m + t) long,
           ap runsOf (q .0),
         )
     sealed-by (stops x y e) h z =
-        let q = subst (λ (c : Check). SealsBy c (sealRuns form key nonce ad t m) (sealing form key nonce ad t m) out r after) e h in
+        let q = subst (λ (c : Check). SealsBy c (sealRuns 3 form key nonce ad t m) (sealing 3 form key nonce ad t m) out r after) e h in
         absurd (y (ap numberOf (sym (q .0)) ∙ z))
 
     -- what a session that has ended wrote is what one call writes, and its runs are that call's
     pub as-one-call : (o : List ℕ) (j : ℕ) → Session cipher (beginning cipher form key nonce ad t .sealer) m o j ended
-        → Seals form key nonce ad m t out r after → numberOf r ≡ 0 → (o ≡ take (lengthOf r) after) × (runsOf (beginning cipher form key nonce ad t .answer) + j ≡ runsOf r)
+        → Seals 3 form key nonce ad m t out r after → numberOf r ≡ 0 → (o ≡ take (lengthOf r) after) × (runsOf (beginning cipher form key nonce ad t .answer) + j ≡ runsOf r)
     unfolding Seals
     as-one-call o j h p z = go (session m o j ended h)
       where
-        one : (take (lengthOf r) after ≡ sealing form key nonce ad t m) × (runsOf r ≡ sealRuns form key nonce ad t m)
-        one = sealed-by (seal-verdict form (knownKey (length key)) (length nonce) t (length ad) (length m) (length out)) p z
+        one : (take (lengthOf r) after ≡ sealing 3 form key nonce ad t m) × (runsOf r ≡ sealRuns 3 form key nonce ad t m)
+        one = sealed-by (seal-verdict 3 form (knownKey (length key)) (length nonce) t (length ad) (length m) (length out)) p z
 
-        go : Came (sealing form key nonce ad t) (sealRuns form key nonce ad t) m o (runsOf (beginning cipher form key nonce ad t .answer) + j) ended
+        go : Came (sealing 3 form key nonce ad t) (sealRuns 3 form key nonce ad t) m o (runsOf (beginning cipher form key nonce ad t .answer) + j) ended
             → (o ≡ take (lengthOf r) after) × (runsOf (beginning cipher form key nonce ad t .answer) + j ≡ runsOf r)
         go (goes-on still long front) = absurd (let z : _≡_ {A = ℕ} 0 1 = cc in omega arith)
         go (has-ended is bytes runs) = (bytes ∙ sym (one .0), runs ∙ sym (one .1))

@@ -9,6 +9,7 @@ use Rattle.lists.specs.Zeros.{zeros}
 use Rattle.aes.specs.Key.{expanded}
 use Rattle.block.specs.Block.{triple}
 use Rattle.mode.specs.Form.{formOf}
+use Rattle.mode.specs.Edition.{v3}
 use Rattle.mode.specs.Masks.{Masks, doubles, third}
 use Rattle.mode.specs.Message.{blocks, pairsOf, rest, sum}
 use Rattle.mode.specs.Sealing.{u, masks, added}
@@ -65,8 +66,8 @@ module _ (C : ℕ → List ℕ → List ℕ → List ℕ) (form : ℕ) (key nonc
       record {
         rounds = expanded key .rounds;
         words = expanded key .words;
-        state = stateAt (u E (E (zeros 16)) (formOf form) nonce ad t) m;
-        added = added E (E (zeros 16)) (formOf form) nonce ad t;
+        state = stateAt (u E (E (zeros 16)) (v3 (formOf form)) nonce ad t) m;
+        added = added E (E (zeros 16)) (v3 (formOf form)) nonce ad t;
         tag = t;
         fed = length m;
       }
@@ -78,19 +79,19 @@ module _ (C : ℕ → List ℕ → List ℕ → List ℕ) (form : ℕ) (key nonc
         rounds = expanded key .rounds;
         words = expanded key .words;
         state = a;
-        added = added E (E (zeros 16)) (formOf form) nonce ad t;
+        added = added E (E (zeros 16)) (v3 (formOf form)) nonce ad t;
         tag = t;
         fed = n;
       }
 
   U : List ℕ
-  U = u (keyed C key) (keyed C key (zeros 16)) (formOf form) nonce ad t
+  U = u (keyed C key) (keyed C key (zeros 16)) (v3 (formOf form)) nonce ad t
 
   pub sealer-none : begunWith C form key nonce ad t ≡ sealerAt []
   unfolding U
   sealer-none = ap (λ (a : State). with a 0) (state-none U)
 
-  pub sealer-stands : (m : List ℕ) → standing (sealerAt m) ≡ reached (masks (keyed C key) (keyed C key (zeros 16)) (formOf form) nonce ad t) m
+  pub sealer-stands : (m : List ℕ) → standing (sealerAt m) ≡ reached (masks (keyed C key) (keyed C key (zeros 16)) (v3 (formOf form)) nonce ad t) m
   unfolding U
   sealer-stands m = state-stands U m
 

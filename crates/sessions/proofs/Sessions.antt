@@ -15,7 +15,8 @@ use Rattle.lists.specs.Lay.{lay}
 use Rattle.lists.specs.Zeros.{zeros}
 use Rattle.lists.proofs.Zeros.{length-zeros}
 use Rattle.aes.specs.Key.{expanded}
-use Rattle.mode.specs.Form.{Form, formOf}
+use Rattle.mode.specs.Form.{formOf}
+use Rattle.mode.specs.Edition.{Edition, v3}
 use Rattle.mode.specs.Masks.{Masks, IsCipher, AreMasks}
 use Rattle.mode.specs.Message.{blocks, pairsOf, rest, pairs, pairsInputs}
 use Rattle.mode.specs.Data.{qInputs, withData}
@@ -24,7 +25,7 @@ use Rattle.mode.specs.Feeding.{Between, keeps, fedBytes, fedInputs, endBytes, e
 use Rattle.mode.proofs.Counts.{pairs-are, pairs-within}
 use Rattle.mode.proofs.Pairs.{length-pairs}
 use Rattle.mode.proofs.Data.{length-dataTag}
-use Rattle.mode.proofs.Third.{otr-masks, length-otr}
+use Rattle.mode.proofs.Otr.{otr-masks, length-otr}
 use Rattle.mode.proofs.Feeding.{reached, fed-joined, fed-inputs-joined, end-joined, end-inputs-joined, count-fed}
 use Rattle.link.specs.Answers.{numberOf, lengthOf, runsOf}
 use Rattle.link.specs.Checks.{Check, pass, stop, knownKey, callCheck}
@@ -64,8 +65,8 @@ module _ (C : ℕ → List ℕ → List ℕ → List ℕ) (ciphers : (nr : ℕ) 
   abbrev E : List ℕ → List ℕ
   E = keyed C key
 
-  abbrev f : Form
-  f = formOf form
+  abbrev f : Edition
+  f = v3 (formOf form)
 
   abbrev k : Masks
   k = masks E (E (zeros 16)) f nonce ad t
@@ -78,9 +79,9 @@ module _ (C : ℕ → List ℕ → List ℕ → List ℕ) (ciphers : (nr : ℕ) 
   begun (stops r z e) h = absurd (z (sym (ap (λ (c : Check). numberOf (beginBy C c form key nonce ad t .answer)) e) ∙ h))
 
   module _ (yes : numberOf (beginning C form key nonce ad t .answer) ≡ 0) where
-    pub begun-with : Called form (knownKey (length key)) (length nonce) t (length ad) × (callCheck form (knownKey (length key)) (length nonce) t (length ad) (pass 0) ≡ pass 0)
+    pub begun-with : Called 3 form (knownKey (length key)) (length nonce) t (length ad) × (callCheck 3 form (knownKey (length key)) (length nonce) t (length ad) (pass 0) ≡ pass 0)
     unfolding beginning
-    begun-with = begun (call-verdict form (knownKey (length key)) (length nonce) t (length ad)) yes
+    begun-with = begun (call-verdict 3 form (knownKey (length key)) (length nonce) t (length ad)) yes
 
     begin-is : beginning C form key nonce ad t ≡ record { answer = Done 0 (beginRuns C form key nonce ad t); sealer = begunWith C form key nonce ad t }
     unfolding beginning
@@ -259,7 +260,7 @@ module _ (C : ℕ → List ℕ → List ℕ → List ℕ) (ciphers : (nr : ℕ) 
 
     -- for any cipher: after any calls what has come out is so much of what one call seals, or all of it
     pub any-session : (m o : List ℕ) (j : ℕ) (last : Sealer) → Session C (beginning C form key nonce ad t .sealer) m o j last
-        → Came (otr (keyed C key) (formOf form) nonce ad t) (λ n. length (otrInputs (keyed C key) (formOf form) nonce ad t n)) m o (runsOf (beginning C form key nonce ad t .answer) + j) last
+        → Came (otr (keyed C key) (v3 (formOf form)) nonce ad t) (λ n. length (otrInputs (keyed C key) (v3 (formOf form)) nonce ad t n)) m o (runsOf (beginning C form key nonce ad t .answer) + j) last
     any-session m o j last h = go (from-begin m o j last h)
       where
         go : Stands m o j last → Came (otr E f nonce ad t) (λ n. length (otrInputs E f nonce ad t n)) m o (runsOf (beginning C form key nonce ad t .answer) + j) last

@@ -19,20 +19,20 @@ start-of c = c .before .before .before .before .before .before
 abbrev Passed : tie.Start → Type 0
 Passed c =
     let v = c .args in
-    OpenFits (v .form) (knownRounds (v .key .rounds)) (length (v .nonce .now)) (v .tag) (length (v .ad .now)) (length (v .sealed .now)) (length (v .out .now))
-    × (callCheck (v .form) (knownRounds (v .key .rounds)) (length (v .nonce .now)) (v .tag) (length (v .ad .now)) (openNext (v .tag) (length (v .sealed .now)) (length (v .out .now))) ≡ pass (length (v .sealed .now) - v .tag))
+    OpenFits (v .edition) (v .form) (knownRounds (v .key .rounds)) (length (v .nonce .now)) (v .tag) (length (v .ad .now)) (length (v .sealed .now)) (length (v .out .now))
+    × (callCheck (v .edition) (v .form) (knownRounds (v .key .rounds)) (length (v .nonce .now)) (v .tag) (length (v .ad .now)) (openNext (v .tag) (length (v .sealed .now)) (length (v .out .now))) ≡ pass (length (v .sealed .now) - v .tag))
 
 passed : (c : tie.Else1) → Passed (start-of (c .before .before))
 passed c =
     let at-check = c .before .before in
-    admitted _ _ _ (at-check .before .known-rounds .ensures) _ _ _ _ _ (at-check .open-check .ensures) _ (c .before .number .ensures) (open-verdict _ _ _ _ _ _ _) (c .if1 .left)
+    admitted _ _ _ _ (at-check .before .known-rounds .ensures) _ _ _ _ _ (at-check .open-check .ensures) _ (c .before .number .ensures) (open-verdict _ _ _ _ _ _ _ _) (c .if1 .left)
 
 returns : tie.Need-returns
 unfolding OpensWith
 returns c =
     let at-check = c .before .before in
     let v = start-of at-check .args in
-    open-refused _ _ _ (at-check .before .known-rounds .ensures) _ _ _ _ _ (at-check .open-check .ensures) _ (c .before .number .ensures) (c .if1 .taken) _ _ (v .sealed .now) (v .out .now)
+    open-refused _ _ _ _ (at-check .before .known-rounds .ensures) _ _ _ _ _ (at-check .open-check .ensures) _ (c .before .number .ensures) (c .if1 .taken) _ _ (v .sealed .now) (v .out .now)
 
 open-requires : tie.Need-open-requires
 open-requires c κs =
@@ -45,7 +45,7 @@ returns-2 c =
     let at-open = c .before .before in
     let e = at-open .before .before .before .before in
     let v = start-of (e .before .before) .args in
-    come-to-open _ (length (v .sealed .now) - v .tag) (passed e .1) _ _ _ _ (v .sealed .now) (v .out .now) (at-open .«open» .result) (at-open .«open» .last .1 .1 .1 .1 .1 .1 .1 .1 .0) (zero-add _) refl (at-open .«open» .ensures)
+    come-to-open _ (length (v .sealed .now) - v .tag) (passed e .1) _ _ _ _ (v .sealed .now) (v .out .now) (at-open .«open» .result) (at-open .«open» .last .1 .1 .1 .1 .1 .1 .1 .1 .1 .0) (zero-add _) refl (at-open .«open» .ensures)
 
 pub open-with-spec : {M : Type 1} → statement M
 open-with-spec = tie.close (tie.spec (λ c κs. search needs) (λ c κs. search needs) (λ c κs. search needs) returns (λ c κs. search needs) open-requires (λ c. search needs) returns-2)

@@ -19,20 +19,20 @@ start-of c = c .before .before .before .before .before .before .before
 abbrev Passed : tie.Start → Type 0
 Passed c =
     let v = c .args in
-    SealFits (v .form) (knownKey (length (v .key .now))) (length (v .nonce .now)) (v .tag) (length (v .ad .now)) (length (v .message .now)) (length (v .out .now))
-    × (callCheck (v .form) (knownKey (length (v .key .now))) (length (v .nonce .now)) (v .tag) (length (v .ad .now)) (sealNext (v .tag) (length (v .message .now)) (length (v .out .now))) ≡ pass (length (v .message .now) + v .tag))
+    SealFits (v .edition) (v .form) (knownKey (length (v .key .now))) (length (v .nonce .now)) (v .tag) (length (v .ad .now)) (length (v .message .now)) (length (v .out .now))
+    × (callCheck (v .edition) (v .form) (knownKey (length (v .key .now))) (length (v .nonce .now)) (v .tag) (length (v .ad .now)) (sealNext (v .tag) (length (v .message .now)) (length (v .out .now))) ≡ pass (length (v .message .now) + v .tag))
 
 passed : (c : tie.Else1) → Passed (start-of (c .before .before))
 passed c =
     let at-check = c .before .before in
-    admitted _ _ _ (at-check .before .known-key .ensures) _ _ _ _ _ (at-check .seal-check .ensures) _ (c .before .number .ensures) (seal-verdict _ _ _ _ _ _ _) (c .if1 .left)
+    admitted _ _ _ _ (at-check .before .known-key .ensures) _ _ _ _ _ (at-check .seal-check .ensures) _ (c .before .number .ensures) (seal-verdict _ _ _ _ _ _ _ _) (c .if1 .left)
 
 returns : tie.Need-returns
 unfolding Seals
 returns c =
     let at-check = c .before .before in
     let v = start-of at-check .args in
-    seal-refused _ _ _ (at-check .before .known-key .ensures) _ _ _ _ _ (at-check .seal-check .ensures) _ (c .before .number .ensures) (c .if1 .taken) _ _ (v .out .now)
+    seal-refused _ _ _ _ (at-check .before .known-key .ensures) _ _ _ _ _ (at-check .seal-check .ensures) _ (c .before .number .ensures) (c .if1 .taken) _ _ (v .out .now)
 
 own-record-requires : tie.Need-own-record-requires
 own-record-requires c κs = (c .before .joined .ensures, passed (c .before .before) .0 .0 .known)
@@ -58,8 +58,8 @@ returns-2 c =
     let e = at-seal .before .before .before .before .before .before .before in
     let v = start-of (e .before .before) .args in
     let f = passed e in
-    own-seals (v .key .now) (f .0 .0 .known) (v .form) (v .nonce .now) (v .ad .now) (v .tag) (own .result) (own .ensures) _ (length (v .message .now) + v .tag) (f .1) (v .message .now) (v .out .now)
-    (at-seal .seal .result) (at-seal .seal .last .1 .1 .1 .1 .1 .1 .1 .1 .0) (at-seal .seal .ensures)
+    own-seals (v .key .now) (f .0 .0 .known) (v .edition) (v .form) (v .nonce .now) (v .ad .now) (v .tag) (own .result) (own .ensures) _ (length (v .message .now) + v .tag) (f .1) (v .message .now) (v .out .now)
+    (at-seal .seal .result) (at-seal .seal .last .1 .1 .1 .1 .1 .1 .1 .1 .1 .0) (at-seal .seal .ensures)
 
 pub seal-spec : {M : Type 1} → statement M
 seal-spec = tie.close (tie.spec (λ c κs. search needs) (λ c κs. search needs) (λ c κs. search needs) returns (λ c κs. search needs) own-record-requires seal-requires (λ c. search needs) returns-2)

@@ -19,20 +19,20 @@ start-of c = c .before .before .before .before .before .before
 abbrev Passed : tie.Start → Type 0
 Passed c =
     let v = c .args in
-    SealFits (v .form) (knownRounds (v .key .rounds)) (length (v .nonce .now)) (v .tag) (length (v .ad .now)) (length (v .message .now)) (length (v .out .now))
-    × (callCheck (v .form) (knownRounds (v .key .rounds)) (length (v .nonce .now)) (v .tag) (length (v .ad .now)) (sealNext (v .tag) (length (v .message .now)) (length (v .out .now))) ≡ pass (length (v .message .now) + v .tag))
+    SealFits (v .edition) (v .form) (knownRounds (v .key .rounds)) (length (v .nonce .now)) (v .tag) (length (v .ad .now)) (length (v .message .now)) (length (v .out .now))
+    × (callCheck (v .edition) (v .form) (knownRounds (v .key .rounds)) (length (v .nonce .now)) (v .tag) (length (v .ad .now)) (sealNext (v .tag) (length (v .message .now)) (length (v .out .now))) ≡ pass (length (v .message .now) + v .tag))
 
 passed : (c : tie.Else1) → Passed (start-of (c .before .before))
 passed c =
     let at-check = c .before .before in
-    admitted _ _ _ (at-check .before .known-rounds .ensures) _ _ _ _ _ (at-check .seal-check .ensures) _ (c .before .number .ensures) (seal-verdict _ _ _ _ _ _ _) (c .if1 .left)
+    admitted _ _ _ _ (at-check .before .known-rounds .ensures) _ _ _ _ _ (at-check .seal-check .ensures) _ (c .before .number .ensures) (seal-verdict _ _ _ _ _ _ _ _) (c .if1 .left)
 
 returns : tie.Need-returns
 unfolding SealsWith
 returns c =
     let at-check = c .before .before in
     let v = start-of at-check .args in
-    seal-refused _ _ _ (at-check .before .known-rounds .ensures) _ _ _ _ _ (at-check .seal-check .ensures) _ (c .before .number .ensures) (c .if1 .taken) _ _ (v .out .now)
+    seal-refused _ _ _ _ (at-check .before .known-rounds .ensures) _ _ _ _ _ (at-check .seal-check .ensures) _ (c .before .number .ensures) (c .if1 .taken) _ _ (v .out .now)
 
 seal-requires : tie.Need-seal-requires
 seal-requires c κs =
@@ -45,7 +45,7 @@ returns-2 c =
     let at-seal = c .before .before in
     let e = at-seal .before .before .before .before in
     let v = start-of (e .before .before) .args in
-    come-to-seal _ (length (v .message .now) + v .tag) (passed e .1) _ _ _ _ (v .out .now) (at-seal .seal .result) (at-seal .seal .last .1 .1 .1 .1 .1 .1 .1 .1 .0) (zero-add _) refl (at-seal .seal .ensures)
+    come-to-seal _ (length (v .message .now) + v .tag) (passed e .1) _ _ _ _ (v .out .now) (at-seal .seal .result) (at-seal .seal .last .1 .1 .1 .1 .1 .1 .1 .1 .1 .0) (zero-add _) refl (at-seal .seal .ensures)
 
 pub seal-with-spec : {M : Type 1} → statement M
 seal-with-spec = tie.close (tie.spec (λ c κs. search needs) (λ c κs. search needs) (λ c κs. search needs) returns (λ c κs. search needs) seal-requires (λ c. search needs) returns-2)

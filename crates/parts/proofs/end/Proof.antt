@@ -12,7 +12,7 @@ use Rattle.aes.specs.Cipher.{cipher}
 use Rattle.mode.specs.Masks.{Masks, AreMasks, doubles, doubled, third}
 use Rattle.mode.specs.Message.{lastLength, base, final, ending, endSum, body}
 use Rattle.mode.specs.Feeding.{endInput, endInputs}
-use Rattle.mode.proofs.Third.{doubled-masks}
+use Rattle.mode.proofs.Otr.{doubled-masks}
 use Rattle.pairs.proofs.Cipher.{is-cipher}
 use borrow.Author.Needs.{needs}
 use Rattle.parts.specs.State.{between}

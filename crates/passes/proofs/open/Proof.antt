@@ -13,14 +13,15 @@ use Rattle.lists.specs.Zeros.{zeros}
 use Rattle.lists.proofs.Laid.{lay-over}
 use Rattle.lists.proofs.Zeros.{length-zeros}
 use Rattle.aes.specs.Cipher.{cipher}
-use Rattle.mode.specs.Form.{formOf}
-use Rattle.mode.specs.Masks.{Masks, third}
+use Rattle.mode.specs.Edition.{editionOf}
+use Rattle.mode.specs.Masks.{Masks}
 use Rattle.mode.specs.Message.{te}
 use Rattle.mode.specs.Sealing.{masks, added, callInputs}
 use Rattle.mode.specs.Opening.{Opened}
 use Rattle.mode.specs.Undoing.{unbody, undoneInputs, answer, foundFrom, foundFromInputs}
 use Rattle.mode.proofs.Walk.{length-unbody}
-use Rattle.mode.proofs.Third.{otr-masks}
+use Rattle.mode.proofs.Edition.{masks-alike}
+use Rattle.mode.proofs.Otr.{otr-masks}
 use Rattle.mode.proofs.Runs.{length-foundFromInputs}
 use Rattle.passes.specs.Shown.{shown, flag}
 use Rattle.pairs.proofs.Cipher.{is-cipher, length-ta}
@@ -34,7 +35,7 @@ abbrev E : tie.Start → List ℕ → List ℕ
 E c = cipher (c .args .nr) (c .args .w .now)
 
 abbrev k : tie.Start → Masks
-k c = masks (E c) (c .args .q) (formOf (c .args .form)) (c .args .n .now) (c .args .a .now) (c .args .t)
+k c = masks (E c) (c .args .q) (editionOf (c .args .edition) (c .args .form)) (c .args .n .now) (c .args .a .now) (c .args .t)
 
 abbrev ciphertext : tie.Start → List ℕ
 ciphertext c = take (length (c .args .s .now) - c .args .t) (c .args .s .now)
@@ -43,7 +44,7 @@ abbrev plain : tie.Start → List ℕ
 plain c = unbody (E c) (k c) (ciphertext c)
 
 abbrev found : tie.Start → Opened
-found c = foundFrom (E c) (c .args .q) (formOf (c .args .form)) (c .args .n .now) (c .args .a .now) (c .args .t) (c .args .s .now)
+found c = foundFrom (E c) (c .args .q) (editionOf (c .args .edition) (c .args .form)) (c .args .n .now) (c .args .a .now) (c .args .t) (c .args .s .now)
 
 cipher-long : (c : tie.Start) → length (ciphertext c) ≡ length (c .args .s .now) - c .args .t
 cipher-long c = length-take-le (length (c .args .s .now) - c .args .t) (c .args .s .now) (omega arith)
@@ -52,7 +53,7 @@ plain-long : (c : tie.Start) → length (plain c) ≡ length (c .args .s .now) -
 plain-long c =
     let v = c .args in
     let e = is-cipher (v .nr) (v .w .now) in
-    length-unbody (E c) e (k c) (otr-masks (E c) e (v .q) (formOf (v .form)) (v .n .now) (v .a .now) (v .t) (length-ta (v .nr) (v .w .now) (v .q) (formOf (v .form)) (v .a .now)) (c .pre .1 .1 .0 .1 .0)) (ciphertext c) ∙ cipher-long c
+    length-unbody (E c) e (k c) (otr-masks (E c) e (v .q) (editionOf (v .edition) (v .form)) (v .n .now) (v .a .now) (v .t) (length-ta (v .nr) (v .w .now) (v .q) (editionOf (v .edition) (v .form)) (v .a .now)) (c .pre .1 .1 .0 .1 .0)) (ciphertext c) ∙ cipher-long c
 
 -- once the tags are compared
 abbrev open-of : tie.After-same-tag → tie.After-open
@@ -67,32 +68,34 @@ opening-of c = c .before .before .before .before .before .before .before .before
 abbrev start-of : tie.After-same-tag → tie.Start
 start-of c = opening-of (open-of c)
 
-message-is : (c : tie.After-same-tag) → open-of c .«open» .last .1 .1 .1 .1 .1 .0 ≡ lay 0 (plain (start-of c)) (start-of c .args .out .now)
+message-is : (c : tie.After-same-tag) → open-of c .«open» .last .1 .1 .1 .1 .1 .1 .0 ≡ lay 0 (plain (start-of c)) (start-of c .args .out .now)
 message-is c =
     let start = start-of c in
     open-of c .«open» .ensures .0
-    ∙ ap (λ (x : List ℕ). lay 0 (unbody (E start) (third x) (ciphertext start)) (start .args .out .now)) (with-of c .seals-with .ensures .0)
+    ∙ ap (λ (j : Masks). lay 0 (unbody (E start) j (ciphertext start)) (start .args .out .now))
+    (masks-alike (start .args .edition) (start .args .form) _ _ (with-of c .seals-with .ensures .0))
 
 answer-is : (c : tie.After-same-tag) → found (start-of c) ≡ answer (c .same-tag .result) (plain (start-of c))
 answer-is c =
     let start = start-of c in
     let v = start .args in
     let with = with-of c .seals-with .ensures in
-    let te-is = open-of c .«open» .ensures .1 .0 ∙ ap (λ (x : List ℕ). te (E start) (third x) (unbody (E start) (third x) (ciphertext start))) (with .0) in
+    let masks-are = masks-alike (v .edition) (v .form) _ _ (with .0) in
+    let te-is = open-of c .«open» .ensures .1 .0 ∙ ap (λ (j : Masks). te (E start) j (unbody (E start) j (ciphertext start))) masks-are in
     let x-is = c .before .before .before .xor .ensures ∙ ap₂ xor te-is (with .1 .0) in
-    opened-by (E start) (k start) (added (E start) (v .q) (formOf (v .form)) (v .n .now) (v .a .now) (v .t)) (v .t) (v .s .now) (c .same-tag .result)
+    opened-by (E start) (k start) (added (E start) (v .q) (editionOf (v .edition) (v .form)) (v .n .now) (v .a .now) (v .t)) (v .t) (v .s .now) (c .same-tag .result)
     (sym (c .same-tag .ensures ∙ ap (λ (x : List ℕ). same (take (v .t) x) (drop (length (v .s .now) - v .t) (v .s .now))) x-is))
 
 -- the runs before the message pass, and its own
 runs-are : (c : tie.After-open)
     → c .before .before .before .before .before .seals-with .result .runs + c .«open» .result .runs
-    ≡ length (foundFromInputs (E (opening-of c)) (opening-of c .args .q) (formOf (opening-of c .args .form)) (opening-of c .args .n .now) (opening-of c .args .a .now) (opening-of c .args .t) (opening-of c .args .s .now))
+    ≡ length (foundFromInputs (E (opening-of c)) (opening-of c .args .q) (editionOf (opening-of c .args .edition) (opening-of c .args .form)) (opening-of c .args .n .now) (opening-of c .args .a .now) (opening-of c .args .t) (opening-of c .args .s .now))
 runs-are c =
     let start = opening-of c in
     let v = start .args in
-    let f = formOf (v .form) in
+    let f = editionOf (v .edition) (v .form) in
     let with = c .before .before .before .before .before .seals-with .ensures in
-    ap₂ _+_ (with .1 .1) (c .«open» .ensures .1 .1 ∙ ap (λ (x : List ℕ). length (undoneInputs (E start) (third x) (ciphertext start))) (with .0))
+    ap₂ _+_ (with .1 .1) (c .«open» .ensures .1 .1 ∙ ap (λ (j : Masks). length (undoneInputs (E start) j (ciphertext start))) (masks-alike (v .edition) (v .form) _ _ (with .0)))
     ∙ sym (length-append (callInputs (E start) (v .q) f (v .n .now) (v .a .now) (v .t)) (undoneInputs (E start) (k start) (ciphertext start)))
 
 add-runs : tie.Need-add-runs
@@ -100,7 +103,7 @@ add-runs c =
     let at-open = c .before .before .before .before .before .before in
     let start = opening-of at-open in
     let v = start .args in
-    record { fits = omega (arith, runs-are at-open, length-foundFromInputs (E start) (v .q) (formOf (v .form)) (v .n .now) (v .a .now) (v .t) (v .s .now), start .good) }
+    record { fits = omega (arith, runs-are at-open, length-foundFromInputs (E start) (v .q) (editionOf (v .edition) (v .form)) (v .n .now) (v .a .now) (v .t) (v .s .now), start .good) }
 
 slice-aggregate-open : tie.Need-slice-aggregate-open
 slice-aggregate-open c = sym (cipher-long (c .before .before .before .before .before .before .before .before))

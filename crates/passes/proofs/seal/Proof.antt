@@ -8,11 +8,12 @@ use lib.Seq.{length-take-le}
 use Rattle.lists.specs.Lay.{lay}
 use Rattle.lists.specs.Xor.{xor}
 use Rattle.aes.specs.Cipher.{cipher}
-use Rattle.mode.specs.Form.{formOf}
-use Rattle.mode.specs.Masks.{third}
+use Rattle.mode.specs.Edition.{editionOf}
+use Rattle.mode.specs.Masks.{Masks}
 use Rattle.mode.specs.Message.{body, te}
 use Rattle.mode.specs.Sealing.{sealedInputs, masks, added, callInputs, fromInputs}
-use Rattle.mode.proofs.Third.{otr-masks, length-added}
+use Rattle.mode.proofs.Edition.{masks-alike}
+use Rattle.mode.proofs.Otr.{otr-masks, length-added}
 use Rattle.mode.proofs.Runs.{length-fromInputs}
 use Rattle.pairs.proofs.Cipher.{is-cipher, length-ta}
 use Rattle.passes.proofs.Sealed.{tagged}
@@ -43,13 +44,13 @@ array-share-prefix-x c = omega (arith, x-long (c .before), start-of (c .before) 
 -- the runs before the message pass, and its own
 runs-are : (c : tie.After-xor)
     → with-of c .seals-with .result .runs + seal-of c .seal .result .runs
-    ≡ length (fromInputs (cipher (start-of c .args .nr) (start-of c .args .w .now)) (start-of c .args .q) (formOf (start-of c .args .form)) (start-of c .args .n .now) (start-of c .args .a .now) (start-of c .args .t) (start-of c .args .m .now))
+    ≡ length (fromInputs (cipher (start-of c .args .nr) (start-of c .args .w .now)) (start-of c .args .q) (editionOf (start-of c .args .edition) (start-of c .args .form)) (start-of c .args .n .now) (start-of c .args .a .now) (start-of c .args .t) (start-of c .args .m .now))
 runs-are c =
     let v = start-of c .args in
     let E = cipher (v .nr) (v .w .now) in
-    let f = formOf (v .form) in
+    let f = editionOf (v .edition) (v .form) in
     let with = with-of c .seals-with .ensures in
-    ap₂ _+_ (with .1 .1) (seal-of c .seal .ensures .1 .1 ∙ ap (λ (x : List ℕ). length (sealedInputs E (third x) (v .m .now))) (with .0))
+    ap₂ _+_ (with .1 .1) (seal-of c .seal .ensures .1 .1 ∙ ap (λ (j : Masks). length (sealedInputs E j (v .m .now))) (masks-alike (v .edition) (v .form) _ _ (with .0)))
     ∙ sym (length-append (callInputs E (v .q) f (v .n .now) (v .a .now) (v .t)) (sealedInputs E (masks E (v .q) f (v .n .now) (v .a .now) (v .t)) (v .m .now)))
 
 slice-aggregate-lay : tie.Need-slice-aggregate-lay
@@ -65,7 +66,7 @@ add-result c =
     let at-xor = c .before .before .before .before .before .before .before in
     let start = start-of at-xor in
     let v = start .args in
-    record { fits = omega (arith, runs-are at-xor, length-fromInputs (cipher (v .nr) (v .w .now)) (v .q) (formOf (v .form)) (v .n .now) (v .a .now) (v .t) (v .m .now), start .good) }
+    record { fits = omega (arith, runs-are at-xor, length-fromInputs (cipher (v .nr) (v .w .now)) (v .q) (editionOf (v .edition) (v .form)) (v .n .now) (v .a .now) (v .t) (v .m .now), start .good) }
 
 returns : tie.Need-returns
 returns c =
@@ -77,13 +78,14 @@ returns c =
     let v = start .args in
     let E = cipher (v .nr) (v .w .now) in
     let e = is-cipher (v .nr) (v .w .now) in
-    let f = formOf (v .form) in
+    let f = editionOf (v .edition) (v .form) in
     let k = masks E (v .q) f (v .n .now) (v .a .now) (v .t) in
     let long = length-ta (v .nr) (v .w .now) (v .q) f (v .a .now) in
     let m = v .m .now in
     let out = v .out .now in
-    let body-is = at-seal .seal .ensures .0 ∙ ap (λ (x : List ℕ). lay 0 (body E (third x) m) out) (with .0) in
-    let te-is = at-seal .seal .ensures .1 .0 ∙ ap (λ (x : List ℕ). te E (third x) m) (with .0) in
+    let masks-are = masks-alike (v .edition) (v .form) _ _ (with .0) in
+    let body-is = at-seal .seal .ensures .0 ∙ ap (λ (j : Masks). lay 0 (body E j m) out) masks-are in
+    let te-is = at-seal .seal .ensures .1 .0 ∙ ap (λ (j : Masks). te E j m) masks-are in
     let x-is = at-xor .xor .ensures ∙ ap₂ xor te-is (with .1 .0) in (
       at-lay .lay .ensures
           ∙ ap₂ (λ (x b : List ℕ). lay (length m) (take (v .t) x) b) x-is body-is

@@ -24,7 +24,7 @@ returns c =
     ∙ begin-refused (v .form) (v .key .now) (v .nonce .now) (v .ad .now) (v .tag) _ (at-check .before .known-key .ensures) (at-check .call-check .result) (at-check .call-check .ensures) _ (c .before .before .number .ensures) (c .before .if1 .taken)
 
 -- every length is within its limits
-fits : (c : tie.Else1) → Called (start-of (c .before .before) .args .form) (knownKey (length (start-of (c .before .before) .args .key .now))) (length (start-of (c .before .before) .args .nonce .now)) (start-of (c .before .before) .args .tag) (length (start-of (c .before .before) .args .ad .now))
+fits : (c : tie.Else1) → Called 3 (start-of (c .before .before) .args .form) (knownKey (length (start-of (c .before .before) .args .key .now))) (length (start-of (c .before .before) .args .nonce .now)) (start-of (c .before .before) .args .tag) (length (start-of (c .before .before) .args .ad .now))
 fits c =
     let at-check = c .before .before in
     let v = start-of at-check .args in

@@ -7,6 +7,7 @@ use lib.ListN.{length}
 use Rattle.lists.specs.Zeros.{zeros}
 use Rattle.block.specs.Block.{triple}
 use Rattle.mode.specs.Form.{formOf}
+use Rattle.mode.specs.Edition.{v3}
 use Rattle.mode.specs.Sealing.{u, added, callInputs}
 use Rattle.mode.proofs.Runs.{length-callInputs}
 use Rattle.link.specs.Prepared.{cipherOf}
@@ -26,7 +27,7 @@ add-t22 c =
       fits = omega (
         arith,
         with .ensures .1 .1,
-        length-callInputs (cipherOf (v .t3)) (v .t3 .zero) (formOf (v .form)) (v .nonce .now) (v .ad .now) (v .tag),
+        length-callInputs (cipherOf (v .t3)) (v .t3 .zero) (v3 (formOf (v .form))) (v .nonce .now) (v .ad .now) (v .tag),
         start .pre .1 .1 .1,
       );
     }
@@ -45,15 +46,15 @@ returns c =
     let with = c .before .before .before .before .before .before .seals-with in
     let v = c .before .before .before .before .before .before .before .before .before .before .before .before .before .args in
     let p = v .t3 in
-    let U = u (cipherOf p) (p .zero) (formOf (v .form)) (v .nonce .now) (v .ad .now) (v .tag) in
+    let U = u (cipherOf p) (p .zero) (v3 (formOf (v .form))) (v .nonce .now) (v .ad .now) (v .tag) in
     let R = c .before .before .before .triple .result in
     let Z = c .before .before .zeros .result in
     let K = c .before .blank .result in
     let runs-are = ap (λ (i : ℕ). v .before + i) (with .ensures .1 .1) in
     let R-is = c .before .before .before .triple .ensures ∙ ap triple (with .ensures .0) in
     ap₂ (λ (i : ℕ) (l : List ℕ). step p (v .tag) i l R Z K (with .result .added)) runs-are (with .ensures .0)
-    ∙ ap₂ (λ (r a : List ℕ). step p (v .tag) (v .before + length (callInputs (cipherOf p) (p .zero) (formOf (v .form)) (v .nonce .now) (v .ad .now) (v .tag))) U r Z K a) R-is (with .ensures .1 .0)
-    ∙ ap₂ (λ (z k : List ℕ). step p (v .tag) (v .before + length (callInputs (cipherOf p) (p .zero) (formOf (v .form)) (v .nonce .now) (v .ad .now) (v .tag))) U (triple U) z k (added (cipherOf p) (p .zero) (formOf (v .form)) (v .nonce .now) (v .ad .now) (v .tag)))
+    ∙ ap₂ (λ (r a : List ℕ). step p (v .tag) (v .before + length (callInputs (cipherOf p) (p .zero) (v3 (formOf (v .form))) (v .nonce .now) (v .ad .now) (v .tag))) U r Z K a) R-is (with .ensures .1 .0)
+    ∙ ap₂ (λ (z k : List ℕ). step p (v .tag) (v .before + length (callInputs (cipherOf p) (p .zero) (v3 (formOf (v .form))) (v .nonce .now) (v .ad .now) (v .tag))) U (triple U) z k (added (cipherOf p) (p .zero) (v3 (formOf (v .form))) (v .nonce .now) (v .ad .now) (v .tag)))
     (c .before .before .zeros .ensures) (c .before .blank .ensures)
 
 pub start-spec : {M : Type 1} → statement M

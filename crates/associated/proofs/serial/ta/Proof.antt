@@ -2,8 +2,7 @@
 use mathlib.Core.Path.{_∙_}
 use native.Mathlib.Omega.{arith}
 use Rattle.aes.specs.Cipher.{cipher}
-use Rattle.mode.specs.Form.{serial}
-use Rattle.mode.specs.Data.{dataPass}
+use Rattle.mode.specs.Data.{serialPass}
 use Rattle.mode.proofs.Runs.{length-chainInputs}
 use borrow.Author.Needs.{needs}
 use Rattle.associated.proofs.serial.ta.Statement.{statement}
@@ -22,7 +21,7 @@ returns : tie.Need-returns
 returns c =
     let at-chain = c .before .before .before in
     let v = at-chain .before .before .before .args in
-    let d = dataPass (cipher (v .nr) (v .w .now)) (v .q) serial in
+    let d = serialPass (cipher (v .nr) (v .w .now)) (v .q) in
     (c .ta .ensures .0 d (c .before .chain-mask .ensures) (at-chain .chain .ensures .0), c .ta .ensures .1 d (at-chain .chain .ensures .1))
 
 pub ta-spec : {M : Type 1} → statement M

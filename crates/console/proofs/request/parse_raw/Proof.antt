@@ -12,4 +12,4 @@ parse-strings-requires c κs =
 
 pub parse-raw-spec : {M : Type 1} → statement M
 parse-raw-spec =
-    tie.close (tie.spec (λ c κs. search needs) (λ c. search needs) (λ c. search needs) (λ c. search needs) (λ c. search needs) parse-strings-requires (λ c. search needs) (λ c. search needs))
+    tie.close (tie.spec (λ c κs. search needs) (λ c. search needs) (λ c. search needs) (λ c. search needs) (λ c κs. search needs) (λ c. search needs) (λ c. search needs) (λ c. search needs) (λ c. search needs) parse-strings-requires (λ c. search needs) (λ c. search needs))

@@ -10,7 +10,7 @@ use borrow.Author.Needs.{needs}
 use Rattle.link.proofs.check.open_check.Statement.{statement}
 use Rattle.link.proofs.check.open_check.Tie as tie
 
--- what follows checks 8 and 1 to 4
+-- what follows checks 10, 8 and 1 to 4
 abbrev next : tie.Start → Check
 next c =
     let v = c .args in
@@ -19,13 +19,13 @@ next c =
 abbrev checks : tie.Start → Check
 checks c =
     let v = c .args in
-    callCheck (v .form) (v .known) (v .nonce) (v .tag) (v .ad) (openNext (v .tag) (v .sealed) (v .room))
+    callCheck (v .edition) (v .form) (v .known) (v .nonce) (v .tag) (v .ad) (openNext (v .tag) (v .sealed) (v .room))
 
 -- they have passed
 next-is : (c : tie.Else1) → checks (c .before .before .before) ≡ next (c .before .before .before)
 next-is c =
     let at-check = c .before .before in
-    goes-on _ _ _ _ _ _ (at-check .call-check .ensures) _ (c .before .number .ensures) (c .if1 .left) (next (at-check .before))
+    goes-on _ _ _ _ _ _ _ (at-check .call-check .ensures) _ (c .before .number .ensures) (c .if1 .left) (next (at-check .before))
 
 range-is : (c : tie.Else2) → from-to (c .before .before .before .before .before .args .tag) (16384 + c .before .before .before .before .before .args .tag) (c .before .before .before .before .before .args .sealed) ≡ true
 range-is c = sym (c .before .from-to .ensures) ∙ not-false (c .before .from-to .result) (c .if2 .left)
@@ -38,11 +38,11 @@ in-range c =
 returns : tie.Need-returns
 returns c =
     let at-check = c .before .before in
-    stops-here _ _ _ _ _ _ (at-check .call-check .ensures) _ (c .before .number .ensures) (c .if1 .taken) (next (at-check .before))
+    stops-here _ _ _ _ _ _ _ (at-check .call-check .ensures) _ (c .before .number .ensures) (c .if1 .taken) (next (at-check .before))
 
 add-from-to : tie.Need-add-from-to
 add-from-to c =
-    omega (arith, called _ _ _ _ _ _ (c .before .before .call-check .ensures) _ (c .before .number .ensures) (c .if1 .left))
+    omega (arith, called _ _ _ _ _ _ _ (c .before .before .call-check .ensures) _ (c .before .number .ensures) (c .if1 .left))
 
 returns-2 : tie.Need-returns-2
 returns-2 c =

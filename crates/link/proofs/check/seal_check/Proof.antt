@@ -9,7 +9,7 @@ use borrow.Author.Needs.{needs}
 use Rattle.link.proofs.check.seal_check.Statement.{statement}
 use Rattle.link.proofs.check.seal_check.Tie as tie
 
--- what follows checks 8 and 1 to 4
+-- what follows checks 10, 8 and 1 to 4
 abbrev next : tie.Start → Check
 next c =
     let v = c .args in
@@ -18,18 +18,18 @@ next c =
 abbrev checks : tie.Start → Check
 checks c =
     let v = c .args in
-    callCheck (v .form) (v .known) (v .nonce) (v .tag) (v .ad) (sealNext (v .tag) (v .message) (v .room))
+    callCheck (v .edition) (v .form) (v .known) (v .nonce) (v .tag) (v .ad) (sealNext (v .tag) (v .message) (v .room))
 
 -- they have passed
 next-is : (c : tie.Else1) → checks (c .before .before .before) ≡ next (c .before .before .before)
 next-is c =
     let at-check = c .before .before in
-    goes-on _ _ _ _ _ _ (at-check .call-check .ensures) _ (c .before .number .ensures) (c .if1 .left) (next (at-check .before))
+    goes-on _ _ _ _ _ _ _ (at-check .call-check .ensures) _ (c .before .number .ensures) (c .if1 .left) (next (at-check .before))
 
 returns : tie.Need-returns
 returns c =
     let at-check = c .before .before in
-    stops-here _ _ _ _ _ _ (at-check .call-check .ensures) _ (c .before .number .ensures) (c .if1 .taken) (next (at-check .before))
+    stops-here _ _ _ _ _ _ _ (at-check .call-check .ensures) _ (c .before .number .ensures) (c .if1 .taken) (next (at-check .before))
 
 returns-2 : tie.Need-returns-2
 returns-2 c =
@@ -39,7 +39,7 @@ returns-2 c =
 add-if3 : tie.Need-add-if3
 add-if3 c =
     let e = c .before in
-    omega (arith, called _ _ _ _ _ _ (e .before .before .call-check .ensures) _ (e .before .number .ensures) (e .if1 .left))
+    omega (arith, called _ _ _ _ _ _ _ (e .before .before .call-check .ensures) _ (e .before .number .ensures) (e .if1 .left))
 
 returns-3 : tie.Need-returns-3
 returns-3 c =

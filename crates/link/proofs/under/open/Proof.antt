@@ -3,11 +3,11 @@ use mathlib.Core.Path.{_≡_, sym, ap, _∙_}
 use Prim.Native.Nat.{ℕ, _+_, _-_}
 use native.Mathlib.Omega.{arith}
 use lib.ListN.{length}
-use Rattle.mode.specs.Form.{formOf}
+use Rattle.mode.specs.Edition.{editionOf}
 use Rattle.mode.specs.Opening.{Opened}
 use Rattle.mode.specs.Undoing.{foundFrom}
 use Rattle.mode.proofs.Runs.{length-foundFromInputs}
-use Rattle.mode.proofs.Third.{otr-opens}
+use Rattle.mode.proofs.Otr.{otr-opens}
 use Rattle.pairs.proofs.Cipher.{is-cipher, length-ta}
 use Rattle.link.specs.Checks.{pass}
 use Rattle.link.specs.Prepared.{cipherOf}
@@ -31,10 +31,10 @@ start-of c = c .before .before .before .before .before .before .before .before .
 abbrev found : tie.After-open → Opened
 found c =
     let v = start-of c .args in
-    foundFrom (cipherOf (v .t3)) (v .t3 .zero) (formOf (v .form)) (v .nonce .now) (v .ad .now) (v .tag) (v .sealed .now)
+    foundFrom (cipherOf (v .t4)) (v .t4 .zero) (editionOf (v .edition) (v .form)) (v .nonce .now) (v .ad .now) (v .tag) (v .sealed .now)
 
 runs-are : (c : tie.After-open)
-    → c .«open» .result .runs ≡ openRunsWith (start-of c .args .form) (start-of c .args .t3) (start-of c .args .nonce .now) (start-of c .args .ad .now) (start-of c .args .tag) (start-of c .args .sealed .now)
+    → c .«open» .result .runs ≡ openRunsWith (start-of c .args .edition) (start-of c .args .form) (start-of c .args .t4) (start-of c .args .nonce .now) (start-of c .args .ad .now) (start-of c .args .tag) (start-of c .args .sealed .now)
 runs-are c = c .«open» .ensures .1 .1
 
 add-ran : tie.Need-add-ran
@@ -46,7 +46,7 @@ add-ran c =
       fits = omega (
         arith,
         runs-are at-open,
-        length-foundFromInputs (cipherOf (v .t3)) (v .t3 .zero) (formOf (v .form)) (v .nonce .now) (v .ad .now) (v .tag) (v .sealed .now),
+        length-foundFromInputs (cipherOf (v .t4)) (v .t4 .zero) (editionOf (v .edition) (v .form)) (v .nonce .now) (v .ad .now) (v .tag) (v .sealed .now),
         start .pre .1 .1 .1 .1 .1,
         start .good,
       );
@@ -56,14 +56,14 @@ add-ran c =
 allowed : (c : tie.After-open) (r : Answer)
     → r ≡ openedAs (length (start-of c .args .sealed .now) - start-of c .args .tag) (start-of c .args .before + c .«open» .result .runs) (found c)
     → OpensBy (pass (length (start-of c .args .sealed .now) - start-of c .args .tag))
-    (start-of c .args .before + openRunsWith (start-of c .args .form) (start-of c .args .t3) (start-of c .args .nonce .now) (start-of c .args .ad .now) (start-of c .args .tag) (start-of c .args .sealed .now))
-    (sealingWith (start-of c .args .form) (start-of c .args .t3) (start-of c .args .nonce .now) (start-of c .args .ad .now) (start-of c .args .tag))
-    (start-of c .args .sealed .now) (start-of c .args .out .now) r (c .«open» .last .1 .1 .1 .1 .1 .1 .1 .1 .1 .0)
+    (start-of c .args .before + openRunsWith (start-of c .args .edition) (start-of c .args .form) (start-of c .args .t4) (start-of c .args .nonce .now) (start-of c .args .ad .now) (start-of c .args .tag) (start-of c .args .sealed .now))
+    (sealingWith (start-of c .args .edition) (start-of c .args .form) (start-of c .args .t4) (start-of c .args .nonce .now) (start-of c .args .ad .now) (start-of c .args .tag))
+    (start-of c .args .sealed .now) (start-of c .args .out .now) r (c .«open» .last .1 .1 .1 .1 .1 .1 .1 .1 .1 .1 .0)
 allowed c r h =
     let start = start-of c in
     let v = start .args in
-    let p = v .t3 in
-    let f = formOf (v .form) in
+    let p = v .t4 in
+    let f = editionOf (v .edition) (v .form) in
     let n = length (v .sealed .now) - v .tag in
     let within = start .pre .1 .1 .0 in (
       found c,
