@@ -19,7 +19,7 @@ use Rattle.link.specs.Answers.{numberOf, runsOf}
 use Rattle.link.specs.Promises.{Seals, Opens}
 use Rattle.link.specs.declared.answer.Answer.{Answer}
 use Rattle.link.proofs.Entries.{aes-cipher, aes-ta}
-use Rattle.demands.specs.Calls.{Named, Limits, formula}
+use Rattle.demands.specs.Calls.{firstFailing, keyKnown, sealChecks, openChecks, Named, Limits, formula}
 use Rattle.demands.proofs.Limits.{edition-known, form-known}
 use Rattle.demands.proofs.Demand1.{sealing-answers, opening-answers}
 use Rattle.demands.proofs.Demand2.{is-sealed, round-trip}
@@ -250,28 +250,38 @@ pub opens-as-parallel : (r : Answer) (after : List ℕ)
     → Opens 3 0 key nonce [] (s 3 1 0) 16 small r after → Opens 3 1 key nonce [] (s 3 1 0) 16 small r after → ⊥
 opens-as-parallel = opens-as 3 0 3 1 third-parallel third-serial forms-apart
 
--- ---- takes form 2 for serial: what form 1's promise allows, form 2's does not
+-- ---- answers a call that is to be refused with n, the number of its first check that fails, with anything else
+pub seals-refused : (e f n : ℕ) (key : List ℕ) → firstFailing (sealChecks e f (keyKnown key) nonce [] (one 0) 16 room) ≡ n
+    → (r : Answer) (after : List ℕ) → (numberOf r ≡ n → ⊥) → Seals e f key nonce [] (one 0) 16 room r after → ⊥
+seals-refused e f n key is r after other p = other (sealing-answers e f key nonce [] (one 0) 16 room r after p .0 ∙ is)
+
+pub opens-refused : (e f n : ℕ) (key x : List ℕ) → firstFailing (openChecks e f (keyKnown key) nonce [] x 16 small) ≡ n → (n ≡ 0 → ⊥)
+    → (r : Answer) (after : List ℕ) → (numberOf r ≡ n → ⊥) → Opens e f key nonce [] x 16 small r after → ⊥
+opens-refused e f n key x is some r after other p =
+    other (opening-answers e f key nonce [] x 16 small r after p .stopped (λ z. some (sym is ∙ z)) .0 ∙ is)
+
+-- so one that takes it for a call that is done: what the promise of that one allows, its own does not
+module _ (e f : ℕ) (named : Named e f) (e′ f′ n : ℕ) (some : n ≡ 0 → ⊥) (r : Answer) (after : List ℕ) where
+  pub seals-taken : firstFailing (sealChecks e′ f′ (keyKnown key) nonce [] (one 0) 16 room) ≡ n
+      → Seals e f key nonce [] (one 0) 16 room r after → Seals e′ f′ key nonce [] (one 0) 16 room r after → ⊥
+  seals-taken is p = seals-refused e′ f′ n key is r after (λ z. some (sym z ∙ sealed-one e f named 0 r after p .0))
+
+  pub opens-taken : firstFailing (openChecks e′ f′ (keyKnown key) nonce [] (s e f 0) 16 small) ≡ n
+      → Opens e f key nonce [] (s e f 0) 16 small r after → Opens e′ f′ key nonce [] (s e f 0) 16 small r after → ⊥
+  opens-taken is p = opens-refused e′ f′ n key (s e f 0) is some r after (λ z. some (sym z ∙ opened-one e f named 0 r after p .0))
+
+-- takes form 2 for serial
 pub seals-form-2 : (r : Answer) (after : List ℕ)
     → Seals 3 1 key nonce [] (one 0) 16 room r after → Seals 3 2 key nonce [] (one 0) 16 room r after → ⊥
-seals-form-2 r after p q =
-    let z : numberOf r ≡ 0 = sealed-one 3 1 third-serial 0 r after p .0 in
-    let e : numberOf r ≡ 8 = sealing-answers 3 2 key nonce [] (one 0) 16 room r after q .0 in
-    omega arith
+seals-form-2 r after = seals-taken 3 1 third-serial 3 2 8 (λ z. omega arith) r after refl
 
 pub opens-form-2 : (r : Answer) (after : List ℕ)
     → Opens 3 1 key nonce [] (s 3 1 0) 16 small r after → Opens 3 2 key nonce [] (s 3 1 0) 16 small r after → ⊥
-opens-form-2 r after p q =
-    let z : numberOf r ≡ 0 = opened-one 3 1 third-serial 0 r after p .0 in
-    let e : numberOf r ≡ 8 = opening-answers 3 2 key nonce [] (s 3 1 0) 16 small r after q .stopped (λ z. omega arith) .0 in
-    omega arith
+opens-form-2 r after = opens-taken 3 1 third-serial 3 2 8 (λ z. omega arith) r after refl
 
--- ---- answers 1 before 8: the form is 2, and the key has 17 bytes
+-- answers 1 before 8: the form is 2, and the key has 17 bytes
 pub seals-1-before-8 : (r : Answer) (after : List ℕ) → numberOf r ≡ 1 → Seals 3 2 (bytes 17 0) nonce [] (one 0) 16 room r after → ⊥
-seals-1-before-8 r after h p =
-    let e : numberOf r ≡ 8 = sealing-answers 3 2 (bytes 17 0) nonce [] (one 0) 16 room r after p .0 in
-    omega arith
+seals-1-before-8 r after h = seals-refused 3 2 8 (bytes 17 0) refl r after (λ z. omega arith)
 
 pub opens-1-before-8 : (r : Answer) (after : List ℕ) → numberOf r ≡ 1 → Opens 3 2 (bytes 17 0) nonce [] (s 3 1 0) 16 small r after → ⊥
-opens-1-before-8 r after h p =
-    let e : numberOf r ≡ 8 = opening-answers 3 2 (bytes 17 0) nonce [] (s 3 1 0) 16 small r after p .stopped (λ z. omega arith) .0 in
-    omega arith
+opens-1-before-8 r after h = opens-refused 3 2 8 (bytes 17 0) (s 3 1 0) refl (λ z. omega arith) r after (λ z. omega arith)

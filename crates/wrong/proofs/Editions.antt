@@ -1,5 +1,5 @@
 -- Wrong programs of document 02's wish 7, each at a named input of `Calls` at which its result does not meet the promise. Assumes nothing.
-use mathlib.Core.Path.{_≡_, ap}
+use mathlib.Core.Path.{_≡_, refl, ap}
 use mathlib.Core.List.{List, []}
 use Prim.Native.Nat.{ℕ}
 use native.Mathlib.Omega.{arith}
@@ -14,9 +14,8 @@ use Rattle.mode.specs.Sealing.{sealed, dataTag}
 use Rattle.link.specs.Answers.{numberOf}
 use Rattle.link.specs.Promises.{Seals, Opens}
 use Rattle.link.specs.declared.answer.Answer.{Answer}
-use Rattle.demands.proofs.Demand1.{sealing-answers, opening-answers}
 use Rattle.wrong.proofs.Named.{key, nonce, one, m64, from-block, editions-apart, bound-apart, doublesRight, doubled-apart}
-use Rattle.wrong.proofs.Calls.{room, small, s, third-parallel, first-parallel, limits, all-sealed, sealed-one, opened-one, seals-as, opens-as}
+use Rattle.wrong.proofs.Calls.{room, small, s, third-parallel, first-parallel, limits, all-sealed, seals-as, opens-as, seals-refused, opens-refused, seals-taken, opens-taken}
 
 -- ---- takes edition 1 for 3: what edition 3's promise allows, edition 1's does not
 pub seals-as-third : (r : Answer) (after : List ℕ)
@@ -46,36 +45,22 @@ binds-tag-length r p =
 
 -- ---- answers 8 before 10: neither the edition nor the form is one
 pub seals-8-before-10 : (r : Answer) (after : List ℕ) → numberOf r ≡ 8 → Seals 2 2 key nonce [] (one 0) 16 room r after → ⊥
-seals-8-before-10 r after h p =
-    let ten : numberOf r ≡ 10 = sealing-answers 2 2 key nonce [] (one 0) 16 room r after p .0 in
-    omega arith
+seals-8-before-10 r after h = seals-refused 2 2 10 key refl r after (λ z. omega arith)
 
 pub opens-8-before-10 : (r : Answer) (after : List ℕ) → numberOf r ≡ 8 → Opens 2 2 key nonce [] (s 1 0 0) 16 small r after → ⊥
-opens-8-before-10 r after h p =
-    let ten : numberOf r ≡ 10 = opening-answers 2 2 key nonce [] (s 1 0 0) 16 small r after p .stopped (λ z. omega arith) .0 in
-    omega arith
+opens-8-before-10 r after h = opens-refused 2 2 10 key (s 1 0 0) refl (λ z. omega arith) r after (λ z. omega arith)
 
 -- ---- takes edition 2 for 3, or edition 1 in the serial form
 pub seals-edition-2 : (r : Answer) (after : List ℕ)
     → Seals 3 0 key nonce [] (one 0) 16 room r after → Seals 2 0 key nonce [] (one 0) 16 room r after → ⊥
-seals-edition-2 r after p q =
-    let done-is : numberOf r ≡ 0 = sealed-one 3 0 third-parallel 0 r after p .0 in
-    let ten : numberOf r ≡ 10 = sealing-answers 2 0 key nonce [] (one 0) 16 room r after q .0 in
-    omega arith
+seals-edition-2 r after = seals-taken 3 0 third-parallel 2 0 10 (λ z. omega arith) r after refl
 
 pub opens-edition-2 : (r : Answer) (after : List ℕ)
     → Opens 3 0 key nonce [] (s 3 0 0) 16 small r after → Opens 2 0 key nonce [] (s 3 0 0) 16 small r after → ⊥
-opens-edition-2 r after p q =
-    let done-is : numberOf r ≡ 0 = opened-one 3 0 third-parallel 0 r after p .0 in
-    let ten : numberOf r ≡ 10 = opening-answers 2 0 key nonce [] (s 3 0 0) 16 small r after q .stopped (λ z. omega arith) .0 in
-    omega arith
+opens-edition-2 r after = opens-taken 3 0 third-parallel 2 0 10 (λ z. omega arith) r after refl
 
 pub seals-first-serial : (r : Answer) (after : List ℕ) → numberOf r ≡ 0 → Seals 1 1 key nonce [] (one 0) 16 room r after → ⊥
-seals-first-serial r after h p =
-    let eight : numberOf r ≡ 8 = sealing-answers 1 1 key nonce [] (one 0) 16 room r after p .0 in
-    omega arith
+seals-first-serial r after h = seals-refused 1 1 8 key refl r after (λ z. omega arith)
 
 pub opens-first-serial : (r : Answer) (after : List ℕ) → numberOf r ≡ 0 → Opens 1 1 key nonce [] (s 1 0 0) 16 small r after → ⊥
-opens-first-serial r after h p =
-    let eight : numberOf r ≡ 8 = opening-answers 1 1 key nonce [] (s 1 0 0) 16 small r after p .stopped (λ z. omega arith) .0 in
-    omega arith
+opens-first-serial r after h = opens-refused 1 1 8 key (s 1 0 0) refl (λ z. omega arith) r after (λ z. omega arith)
