@@ -23,7 +23,7 @@ use Rattle.link.specs.Promises.{sealing, sealRuns, openRuns, SealsBy, Seals, Op
 use Rattle.link.specs.declared.answer.Answer.{Answer}
 use Rattle.link.specs.declared.prepared.Prepared.{Prepared}
 use Rattle.link.proofs.Answers.{no-runs}
-use Rattle.link.proofs.Verdicts.{Verdict, SealFits, OpenFits, seal-verdict, open-verdict}
+use Rattle.link.proofs.Verdicts.{Verdict, OpenFits, sealing-done, seal-verdict, open-verdict}
 use Rattle.demands.specs.Calls.{keyKnown, roundsKnown, formula, formulaWith}
 use Rattle.demands.proofs.Demand1.{stop-is, answers-not-7, open-not-7}
 
@@ -31,11 +31,6 @@ use Rattle.demands.proofs.Demand1.{stop-is, answers-not-7, open-not-7}
 pub record Counts (k : ℕ) (r : Answer) : Type 0 where
   pub ran : (numberOf r ≡ 0) ⊎ (numberOf r ≡ 7) → runsOf r ≡ k
   pub refused : (numberOf r ≡ 0 → ⊥) → (numberOf r ≡ 7 → ⊥) → runsOf r ≡ 0
-
-by-seal : (c : Check) (k : ℕ) (bytes out : List ℕ) (r : Answer) (after : List ℕ) → ((x : Answer) → c ≡ stop x → numberOf x ≡ 0 → ⊥)
-    → SealsBy c k bytes out r after → numberOf r ≡ 0 → runsOf r ≡ k
-by-seal (pass n) k bytes out r after never p z = ap runsOf (p .0)
-by-seal (stop x) k bytes out r after never p z = absurd (never x refl (sym (ap numberOf (p .0)) ∙ z))
 
 by-open : (c : Check) (k : ℕ) (seal : List ℕ → List ℕ) (s out : List ℕ) (r : Answer) (after : List ℕ) → ((x : Answer) → c ≡ stop x → numberOf x ≡ 0 → ⊥)
     → (numberOf (asAnswer c) ≡ 7 → ⊥) → OpensBy c k seal s out r after → (numberOf r ≡ 0) ⊎ (numberOf r ≡ 7) → runsOf r ≡ k
@@ -49,14 +44,9 @@ module _ (edition form : ℕ) (known : Bool) (nonce ad : List ℕ) (t : ℕ) (ou
   seal-counts : (m bytes : List ℕ) → SealsBy (callCheck edition form known (length nonce) t (length ad) (sealNext t (length m) (length out))) k bytes out r after → Counts k r
   seal-counts m bytes p = record { ran = ran; refused = no-runs r }
     where
-      Fits : Type 0
-      Fits = SealFits edition form known (length nonce) t (length ad) (length m) (length out)
-
       ran : (numberOf r ≡ 0) ⊎ (numberOf r ≡ 7) → runsOf r ≡ k
       ran (inl z) =
-          let checks = callCheck edition form known (length nonce) t (length ad) (sealNext t (length m) (length out)) in
-          let verdict = seal-verdict edition form known (length nonce) t (length ad) (length m) (length out) in
-          by-seal checks k bytes out r after (stop-is Fits (length m + t) checks verdict) p z
+          ap runsOf (sealing-done (seal-verdict edition form known (length nonce) t (length ad) (length m) (length out)) k bytes out r after p z .1)
       ran (inr h) = absurd (answers-not-7 edition form known nonce ad m t out k bytes r after p h)
 
   open-counts : (s : List ℕ) (seal : List ℕ → List ℕ) → OpensBy (callCheck edition form known (length nonce) t (length ad) (openNext t (length s) (length out))) k seal s out r after

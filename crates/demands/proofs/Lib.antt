@@ -6,5 +6,6 @@ pub mod Demand3
 pub mod Count
 pub mod Prepared
 pub mod TagLength
+pub mod EarlyPart
 pub mod Unchanged
 pub mod Firmware

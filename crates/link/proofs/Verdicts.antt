@@ -1,15 +1,18 @@
 -- What the checks come to: they pass, and then every length is within its limits; or the first that fails stops the call with its
 -- own number. Assumes nothing.
-use mathlib.Core.Path.{_≡_, refl, sym, ap, _∙_}
+use mathlib.Core.Path.{_≡_, refl, sym, ap, subst, _∙_}
 use mathlib.Core.Bool.{Bool, true, false, _&&_}
+use mathlib.Core.List.{List}
 use Prim.Native.Nat.{ℕ, _+_, _-_, _≤_}
 use native.Mathlib.Omega.{arith}
 use lib.Dec.{leb}
 use borrow.Author.Tests.{leb-true}
+use Rattle.lists.specs.Lay.{lay}
 use Rattle.link.specs.Answers.{numberOf}
 use Rattle.link.specs.Checks.{Check, pass, stop, from-to, unless, knownEdition, lastForm, callCheck, sealNext, openNext, asAnswer}
+use Rattle.link.specs.Promises.{SealsBy}
 use Rattle.link.specs.declared.answer.Answer.{Answer}
-use Rattle.link.specs.declared.answer.Answer.the-variants.{Key, Nonce, Tag, Data, Length, Room, Form, Edition}
+use Rattle.link.specs.declared.answer.Answer.the-variants.{Done, Key, Nonce, Tag, Data, Length, Room, Form, Edition}
 
 -- the checks c come to n bytes with P known, or stop at a refusal
 pub data Verdict (P : Type 0) (n : ℕ) (c : Check) : Type 0 where
@@ -28,6 +31,16 @@ sure (stops x z e) i h = absurd (pass-or-stop i x (sym h ∙ e))
 pub went-on : {P : Type 0} {i : ℕ} {c : Check} → Verdict P i c → (r : Answer) → r ≡ asAnswer c → numberOf r ≡ 0 → P × (c ≡ pass i)
 went-on (passes p e) r q z = (p, e)
 went-on (stops x y e) r q z = absurd (y (sym (ap (λ (c : Check). numberOf (asAnswer c)) e) ∙ sym (ap numberOf q) ∙ z))
+
+-- a sealing that is done: they have passed, and the bytes are laid
+pub sealing-done : {P : Type 0} {n : ℕ} {c : Check} → Verdict P n c → (k : ℕ) (bytes out : List ℕ) (r : Answer) (after : List ℕ)
+    → SealsBy c k bytes out r after → numberOf r ≡ 0 → P × (r ≡ Done n k) × (after ≡ lay 0 bytes out)
+sealing-done (passes p e) k bytes out r after h z =
+    let q = subst (λ (c : Check). SealsBy c k bytes out r after) e h in
+    (p, q .0, q .1)
+sealing-done (stops x y e) k bytes out r after h z =
+    let q = subst (λ (c : Check). SealsBy c k bytes out r after) e h in
+    absurd (y (sym (ap numberOf (q .0)) ∙ z))
 
 -- one check more in front
 pub checked : {P : Type 0} {n : ℕ} {c : Check} (b : Bool) (r : Answer) → (numberOf r ≡ 0 → ⊥) → (b ≡ true → Verdict P n c) → Verdict P n (unless b r c)

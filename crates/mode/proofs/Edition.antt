@@ -3,7 +3,7 @@ use mathlib.Core.Path.{_≡_, refl, ap}
 use mathlib.Core.List.{List}
 use Prim.Native.Nat.{ℕ, zero, suc}
 use Rattle.mode.specs.Form.{parallel, serial, formOf}
-use Rattle.mode.specs.Edition.{v1, v3, editionOf}
+use Rattle.mode.specs.Edition.{v1, v3, editionOf, formIn}
 use Rattle.mode.specs.Masks.{third, first, masksOf}
 
 pub is-parallel : (n : ℕ) → n ≡ 0 → formOf n ≡ parallel
@@ -20,6 +20,12 @@ pub is-third : (e form : ℕ) → (e ≡ 1 → ⊥) → editionOf e form ≡ v3 
 is-third zero form h = refl
 is-third (suc zero) form h = absurd (h refl)
 is-third (suc (suc n)) form h = refl
+
+-- form 0 is the parallel one, whatever the edition
+pub form-0 : (e : ℕ) → formIn (editionOf e 0) ≡ parallel
+form-0 zero = refl
+form-0 (suc zero) = refl
+form-0 (suc (suc n)) = refl
 
 -- the masks go by the edition and not by its form
 pub masks-alike : (e form : ℕ) (x u : List ℕ) → x ≡ u → masksOf (editionOf e 0) x ≡ masksOf (editionOf e form) u

@@ -2,5 +2,6 @@ pub mod Checked
 pub mod Reached
 pub mod Sessions
 pub mod OneCall
+pub mod EarlyPart
 pub mod Decided
 pub mod Wrong

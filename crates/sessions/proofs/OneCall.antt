@@ -15,10 +15,10 @@ use Rattle.mode.specs.Sealing.{otr, otrInputs}
 use Rattle.mode.proofs.Otr.{length-otr}
 use Rattle.pairs.proofs.Cipher.{is-cipher}
 use Rattle.link.specs.Answers.{numberOf, lengthOf, runsOf}
-use Rattle.link.specs.Checks.{Check, pass, knownKey}
-use Rattle.link.specs.Promises.{sealing, sealRuns, SealsBy, Seals}
+use Rattle.link.specs.Checks.{knownKey}
+use Rattle.link.specs.Promises.{sealing, sealRuns, Seals}
 use Rattle.link.specs.declared.answer.Answer.{Answer}
-use Rattle.link.proofs.Verdicts.{Verdict, passes, stops, SealFits, seal-verdict}
+use Rattle.link.proofs.Verdicts.{sealing-done, seal-verdict}
 use Rattle.link.proofs.Entries.{cipher-is, aes-cipher, aes-ta}
 use Rattle.sealer.specs.declared.Sealer.{Sealer}
 use Rattle.sealer.specs.Sealers.{ended}
@@ -36,29 +36,26 @@ module _ (form : ℕ) (key nonce ad : List ℕ) (t : ℕ) (yes : numberOf (begin
 
   -- what one call wrote, where it was done
   module _ (m out : List ℕ) (r : Answer) (after : List ℕ) where
-    sealed-by : {c : Check} → Verdict (SealFits 3 form (knownKey (length key)) (length nonce) t (length ad) (length m) (length out)) (length m + t) c
-        → SealsBy c (sealRuns 3 form key nonce ad t m) (sealing 3 form key nonce ad t m) out r after → numberOf r ≡ 0
+    one-call : Seals 3 form key nonce ad m t out r after → numberOf r ≡ 0
         → (take (lengthOf r) after ≡ sealing 3 form key nonce ad t m) × (runsOf r ≡ sealRuns 3 form key nonce ad t m)
-    sealed-by (passes p e) h z =
-        let q : SealsBy (pass (length m + t)) (sealRuns 3 form key nonce ad t m) (sealing 3 form key nonce ad t m) out r after = subst (λ (c : Check). SealsBy c (sealRuns 3 form key nonce ad t m) (sealing 3 form key nonce ad t m) out r after) e h in
+    unfolding Seals
+    one-call p z =
+        let verdict = seal-verdict 3 form (knownKey (length key)) (length nonce) t (length ad) (length m) (length out) in
+        let done = sealing-done verdict (sealRuns 3 form key nonce ad t m) (sealing 3 form key nonce ad t m) out r after p z in
         let long : length (sealing 3 form key nonce ad t m) ≡ length m + t =
-        length-otr (aes key) (aes-cipher key) (aes key (zeros 16)) (v3 (formOf form)) nonce ad t (aes-ta key (v3 (formOf form)) ad) (p .0 .nonces .1) (p .0 .tags .1) m in (
-          ap₂ (λ (n : ℕ) (b : List ℕ). take n b) (ap lengthOf (q .0)) (q .1)
+        length-otr (aes key) (aes-cipher key) (aes key (zeros 16)) (v3 (formOf form)) nonce ad t (aes-ta key (v3 (formOf form)) ad) (done .0 .0 .nonces .1) (done .0 .0 .tags .1) m in (
+          ap₂ (λ (n : ℕ) (b : List ℕ). take n b) (ap lengthOf (done .1)) (done .2)
               ∙ take-at (sealing 3 form key nonce ad t m) (drop (0 + length (sealing 3 form key nonce ad t m)) out) (length m + t) long,
-          ap runsOf (q .0),
+          ap runsOf (done .1),
         )
-    sealed-by (stops x y e) h z =
-        let q = subst (λ (c : Check). SealsBy c (sealRuns 3 form key nonce ad t m) (sealing 3 form key nonce ad t m) out r after) e h in
-        absurd (y (ap numberOf (sym (q .0)) ∙ z))
 
     -- what a session that has ended wrote is what one call writes, and its runs are that call's
     pub as-one-call : (o : List ℕ) (j : ℕ) → Session cipher (beginning cipher form key nonce ad t .sealer) m o j ended
         → Seals 3 form key nonce ad m t out r after → numberOf r ≡ 0 → (o ≡ take (lengthOf r) after) × (runsOf (beginning cipher form key nonce ad t .answer) + j ≡ runsOf r)
-    unfolding Seals
     as-one-call o j h p z = go (session m o j ended h)
       where
         one : (take (lengthOf r) after ≡ sealing 3 form key nonce ad t m) × (runsOf r ≡ sealRuns 3 form key nonce ad t m)
-        one = sealed-by (seal-verdict 3 form (knownKey (length key)) (length nonce) t (length ad) (length m) (length out)) p z
+        one = one-call p z
 
         go : Came (sealing 3 form key nonce ad t) (sealRuns 3 form key nonce ad t) m o (runsOf (beginning cipher form key nonce ad t .answer) + j) ended
             → (o ≡ take (lengthOf r) after) × (runsOf (beginning cipher form key nonce ad t .answer) + j ≡ runsOf r)

@@ -93,7 +93,7 @@ module _ (C : ℕ → List ℕ → List ℕ → List ℕ) (ciphers : (nr : ℕ) 
     ta-long : length (dataTag E (E (zeros 16)) f ad) ≡ 16
     ta-long = length-dataTag E e (E (zeros 16)) (e (zeros 16) (length-zeros 16)) f ad
 
-    are : AreMasks k
+    pub are : AreMasks k
     are = otr-masks E e (E (zeros 16)) f nonce ad t ta-long (begun-with .0 .nonces .1)
 
     sealed-long : (m : List ℕ) → length (otr E f nonce ad t m) ≡ length m + t

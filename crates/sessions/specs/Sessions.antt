@@ -1,6 +1,7 @@
 -- The words that the statements about sessions are made in. C is any cipher that goes by a round count and round keys.
 use mathlib.Core.Path.{_≡_}
 use mathlib.Core.Bool.{Bool, true, false}
+use mathlib.Core.Logic.{_⊎_}
 use mathlib.Core.List.{List, [], _++_}
 use Prim.Native.Nat.{ℕ, zero, suc, _+_, _-_, _*_, _/_}
 use lib.Dec.{eqb}
@@ -9,7 +10,7 @@ use Rattle.link.specs.Answers.{numberOf, lengthOf, runsOf}
 use Rattle.sealer.specs.declared.Sealer.{Sealer}
 use Rattle.sealer.specs.declared.Step.{Step}
 use Rattle.sealer.specs.Sealers.{goesOn, ended}
-use Rattle.sealer.specs.Promises.{Feeds, Ends}
+use Rattle.sealer.specs.Promises.{beginning, Feeds, Ends}
 
 -- after n bytes fed so many are out (document 02, wish 3): nothing if n is 0, otherwise 32·(⌈n/32⌉ − 1)
 abbrev pub outAfter : ℕ → ℕ
@@ -53,3 +54,17 @@ pub data Came (whole : List ℕ → List ℕ) (runs : List ℕ → ℕ) (m o : L
   goes-on : goesOn (s .rounds) (s .tag) (s .fed) ≡ true → length o ≡ outAfter (length m) → o ≡ take (outAfter (length m)) (whole m)
       → Came whole runs m o j s
   has-ended : s ≡ ended → o ≡ whole m → j ≡ runs m → Came whole runs m o j s
+
+-- ---- document 02, wish 12
+-- a sealer that was begun with these settings, has taken in m and written o, in whatever calls, and goes on
+pub record Running (C : ℕ → List ℕ → List ℕ → List ℕ) (form : ℕ) (key nonce ad : List ℕ) (t : ℕ) (m o : List ℕ) : Type 0 where
+  pub begun : numberOf (beginning C form key nonce ad t .answer) ≡ 0
+  pub runs : ℕ
+  pub now : Sealer
+  pub calls : Session C (beginning C form key nonce ad t .sealer) m o runs now
+  pub going : goesOn (now .rounds) (now .tag) (now .fed) ≡ true
+
+-- two data that, with the other settings the same, leave what comes out before the end alike: any in the parallel form, and in the serial
+-- one, whose U is made of them, the same
+abbrev pub Alike : ℕ → List ℕ → List ℕ → Type 0
+Alike form ad ad′ = (form ≡ 0) ⊎ (ad ≡ ad′)
