@@ -11,6 +11,8 @@ mod call;
 mod console_sealer;
 mod data_pass;
 mod division;
+#[cfg(test)]
+mod early_tests;
 mod edition;
 mod exchange;
 mod failure;

@@ -42,10 +42,20 @@ nonces-of-15 = refl
 unfoldable pub standIn : List ℕ → List ℕ
 standIn b = table (λ i. (5 * getD b i 0 + 3 * getD b ((i + 1) % 16) 0 + 7 * i + 11) % 256) 16
 
--- a row's strings: byte i of the message is 7i + 3, of the data 11i + 5, of the nonce 13i + 1
+-- strings by their lengths: byte i of a message is 7i + 3, of the data 11i + 5, of a nonce 13i + 1
+abbrev pub message : ℕ → List ℕ
+message = table (λ i. (7 * i + 3) % 256)
+
+abbrev pub data-of : ℕ → List ℕ
+data-of = table (λ i. (11 * i + 5) % 256)
+
+abbrev pub nonce-of : ℕ → List ℕ
+nonce-of = table (λ i. (13 * i + 1) % 256)
+
+-- a rule of sealing, at the strings of a row
 pub of-strings : (Edition → List ℕ → List ℕ → ℕ → List ℕ → ℕ × List ℕ) → Row → ℕ × List ℕ
 of-strings seal (e, f, m, a, k, t, n, x) =
-    seal (editionOf e f) (table (λ i. (13 * i + 1) % 256) k) (table (λ i. (11 * i + 5) % 256) a) t (table (λ i. (7 * i + 3) % 256) m)
+    seal (editionOf e f) (nonce-of k) (data-of a) t (message m)
 
 -- the number of blocks handed to the cipher, and the row sealed
 pub computed : Row → ℕ × List ℕ
@@ -110,10 +120,7 @@ lent-rows = refl
 
 -- 20 bytes sealed with a tag of 4, beside the front of them sealed with 16: in v1 the same, in v3.1 not
 pub cut : Edition → Bool
-cut f =
-    let nonce = table (λ i. (13 * i + 1) % 256) 12 in
-    let m = table (λ i. (7 * i + 3) % 256) 20 in
-    same (otr standIn f nonce [] 4 m) (take 24 (otr standIn f nonce [] 16 m))
+cut f = same (otr standIn f (nonce-of 12) [] 4 (message 20)) (take 24 (otr standIn f (nonce-of 12) [] 16 (message 20)))
 
 pub binds-the-tag-length : map cut (v1 ∷ v3 parallel ∷ v3 serial ∷ []) ≡ true ∷ false ∷ false ∷ []
 unfolding cut same standIn tableFrom xor zeros pad shift double doubles blocks pairsOf even short sum pairs body checksum te ta zipWith format tag sealed

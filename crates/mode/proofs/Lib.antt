@@ -20,5 +20,5 @@ pub mod Runs
 pub mod Own
 pub mod Feeding
 pub mod Inputs
-pub mod Early
+pub mod EarlyPart
 pub mod StaysOut

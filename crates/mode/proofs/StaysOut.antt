@@ -1,24 +1,26 @@
--- What stays out of the statement about early parts (`Early`), and why. Assumes nothing.
+-- What stays out of the statement about early parts (`EarlyPart`), and why. Assumes nothing.
 --
--- A length of exactly 32·j. Its last 32 bytes are no pair but the message's last two blocks, which come out as those of a pair do,
--- exchanged (`ends-exchanged`). So of a message of exactly 32·j bytes and a longer one neither direction holds: where the messages agree
--- the outputs differ, but for a pair whose two cipher blocks are equal (`agreeing-differ`), and the longer one for which the outputs agree
--- is the one whose last pair is undone from the two exchanged (`differing-agree`). Of two messages of exactly 32·j bytes both directions
--- hold, as both are exchanged (`both-exactly`).
+-- A length of exactly 32·j. Its last 32 bytes are no pair but the last two blocks, which come out as those of a pair do, exchanged
+-- (`ends-exchanged`). Beside a longer message neither direction holds. Where the messages agree, the outputs do not, but for a pair whose
+-- two cipher blocks are equal (`exactly-and-longer`, and computed `agreeing-differ`). And the outputs agree where the longer message has
+-- the pair that gives the two exchanged, which is another (`differing-agree`). Of two messages of exactly 32·j bytes both directions hold,
+-- as both come out exchanged (`both-exactly`).
 --
--- The serial form. Its U is made of TA (source document 000, Fig. 3, EF-S, line 2), so two data give two outputs of one message from the
--- first pair on (`data-tell`).
+-- Half a pair. Its cipher block is of both blocks of the pair, so that 16 bytes more tell what follows them (`half-a-pair`).
+--
+-- The serial form. Its U is made of TA (source document 000, Fig. 3, EF-S, line 2), so that one message comes out otherwise with other data,
+-- from the first pair on (`data-tell`).
 use mathlib.Core.Path.{_≡_, refl, sym, ap, ap₂, _∙_}
 use mathlib.Core.Bool.{Bool, true, false}
 use mathlib.Core.Logic.{_↔_}
 use mathlib.Core.List.{List, [], _∷_, _++_, map, zipWith}
-use Prim.Native.Nat.{ℕ, _+_, _*_, _%_}
+use Prim.Native.Nat.{ℕ, _+_, _*_}
 use native.Mathlib.Omega.{arith}
 use lib.ListN.{length, take, drop, length-drop}
 use lib.Seq.{take-at, take-all, drop-at, drop-drop}
 use borrow.Author.Tests.{lt-ltb}
 use Rattle.lists.specs.Same.{same}
-use Rattle.lists.specs.Table.{table, tableFrom}
+use Rattle.lists.specs.Table.{tableFrom}
 use Rattle.lists.specs.Xor.{xor}
 use Rattle.lists.specs.Zeros.{zeros}
 use Rattle.block.specs.Block.{pad, shift, double}
@@ -31,13 +33,13 @@ use Rattle.mode.specs.Data.{dataSum, chain, ta}
 use Rattle.mode.specs.Nonce.{format}
 use Rattle.mode.specs.Sealing.{tag, sealed, masks, otr}
 use Rattle.mode.specs.Undoing.{swapped, unbody}
-use Rattle.mode.specs.Early.{early, Longer}
+use Rattle.mode.specs.EarlyPart.{early, Longer}
 use Rattle.mode.proofs.Counts.{pairs-are, even-is}
 use Rattle.mode.proofs.Pairs.{length-block, length-half, pairs-step, length-pairs}
 use Rattle.mode.proofs.Walk.{length-body, body-undone}
 use Rattle.mode.proofs.Parts.{body-parts}
-use Rattle.mode.proofs.Early.{renamed, are-pairs, pairs-tell, early-is}
-use Rattle.mode.proofs.Agreement.{standIn}
+use Rattle.mode.proofs.EarlyPart.{renamed, are-pairs, pairs-tell, early-is}
+use Rattle.mode.proofs.Agreement.{standIn, message, data-of, nonce-of}
 
 -- ---- exactly 32·j
 module _ (E : List ℕ → List ℕ) (e : IsCipher E) (k : Masks) (s : AreMasks k) (j : ℕ) where
@@ -107,7 +109,7 @@ module _ (E : List ℕ → List ℕ) (e : IsCipher E) (k : Masks) (s : AreMasks 
   first-of x y long =
       ap (take 16) (drop-at (pairs E k j m) (x ++ y) (32 * j) (length-pairs E e k s j m (omega arith))) ∙ take-at x y 16 long
 
-  -- beside a longer message that agrees with it the outputs agree only if the two are equal
+  -- beside a longer message that agrees with it the outputs agree exactly if the two are equal
   pub exactly-and-longer : (a a′ : List ℕ) (t t′ : ℕ) (m′ : List ℕ) → Longer (j + 1) m′ → early (j + 1) m ≡ early (j + 1) m′
       → (early (j + 1) (sealed E k a t m) ≡ early (j + 1) (sealed E k a′ t′ m′)) ↔ (c ≡ c′)
   exactly-and-longer a a′ t t′ m′ h alike =
@@ -118,43 +120,39 @@ module _ (E : List ℕ → List ℕ) (e : IsCipher E) (k : Masks) (s : AreMasks 
         λ same. ap₂ (λ (x y : List ℕ). pairs E k j m ++ (x ++ y)) (sym same) same,
       )
 
--- ---- computed, over the stand-in cipher: byte i of a message is 7i + 3, of the data 11i + 5, of the nonce 13i + 1
-abbrev nonce : List ℕ
-nonce = table (λ i. (13 * i + 1) % 256) 12
-
-abbrev data-of : ℕ → List ℕ
-data-of = table (λ i. (11 * i + 5) % 256)
-
-abbrev message : ℕ → List ℕ
-message = table (λ i. (7 * i + 3) % 256)
-
--- whether two strings agree on their first 32 bytes
-abbrev agree : List ℕ → List ℕ → Bool
-agree x y = same (early 1 x) (early 1 y)
+-- ---- computed, over the stand-in cipher
+-- whether two strings agree in front
+abbrev agree : (List ℕ → List ℕ) → List ℕ → List ℕ → Bool
+agree front x y = same (front x) (front y)
 
 -- whether two messages do, and what they seal to
-pub seen : Edition → List ℕ → List ℕ → Bool × Bool
-seen f m m′ = (agree m m′, agree (otr standIn f nonce [] 16 m) (otr standIn f nonce [] 16 m′))
+pub seen : (List ℕ → List ℕ) → Edition → List ℕ → List ℕ → Bool × Bool
+seen front f m m′ = (agree front m m′, agree front (otr standIn f (nonce-of 12) [] 16 m) (otr standIn f (nonce-of 12) [] 16 m′))
 
--- the message that seals to the first 32 bytes of what m seals to, and goes on: one pair undone, and a byte behind it
+-- the message whose first pair gives the first 32 bytes of what m seals to, and that goes on: these undone, and a byte behind
 pub longer-one : Edition → List ℕ → List ℕ
 longer-one f m =
-    pairs standIn (swapped (masks standIn (standIn (zeros 16)) f nonce [] 16)) 1 (otr standIn f nonce [] 16 m) ++ (0 ∷ [])
+    pairs standIn (swapped (masks standIn (standIn (zeros 16)) f (nonce-of 12) [] 16)) 1 (otr standIn f (nonce-of 12) [] 16 m) ++ (0 ∷ [])
 
 -- 32 bytes, and the same with one more: the messages agree, and the outputs differ
-pub agreeing-differ : map (λ f. seen f (message 32) (message 33)) (v1 ∷ v3 parallel ∷ []) ≡ (true, false) ∷ (true, false) ∷ []
+pub agreeing-differ : map (λ f. seen (early 1) f (message 32) (message 33)) (v1 ∷ v3 parallel ∷ []) ≡ (true, false) ∷ (true, false) ∷ []
 unfolding seen same standIn tableFrom xor zeros pad shift double doubles blocks pairsOf even short sum pairs body checksum te ta zipWith format tag sealed
 agreeing-differ = refl
 
 -- 32 bytes, and 33 others: the messages differ, and the outputs agree
-pub differing-agree : map (λ f. seen f (message 32) (longer-one f (message 32))) (v1 ∷ v3 parallel ∷ []) ≡ (false, true) ∷ (false, true) ∷ []
+pub differing-agree : map (λ f. seen (early 1) f (message 32) (longer-one f (message 32))) (v1 ∷ v3 parallel ∷ []) ≡ (false, true) ∷ (false, true) ∷ []
 unfolding seen longer-one same standIn tableFrom xor zeros pad shift double doubles blocks pairsOf even short sum pairs body checksum te ta zipWith format tag sealed
 differing-agree = refl
 
--- ---- the serial form: one message of 33 bytes with data of 5 and of 6
-pub told-apart : Edition → Bool
-told-apart f = agree (otr standIn f nonce (data-of 5) 16 (message 33)) (otr standIn f nonce (data-of 6) 16 (message 33))
+-- 65 bytes, and the same 48 with 17 others behind them: the outputs differ there
+pub half-a-pair : map (λ f. seen (take 48) f (message 65) (take 48 (message 65) ++ message 17)) (v1 ∷ v3 parallel ∷ []) ≡ (true, false) ∷ (true, false) ∷ []
+unfolding seen same standIn tableFrom xor zeros pad shift double doubles blocks pairsOf even short sum pairs body checksum te ta zipWith format tag sealed
+half-a-pair = refl
 
-pub data-tell : map told-apart (v1 ∷ v3 parallel ∷ v3 serial ∷ []) ≡ true ∷ true ∷ false ∷ []
-unfolding told-apart same standIn tableFrom xor zeros pad shift double doubles blocks pairsOf even short sum pairs body checksum te dataSum chain ta zipWith format tag sealed
+-- 33 bytes with data of 5 and of 6 bytes: in the serial form the outputs differ
+pub alike : Edition → Bool
+alike f = agree (early 1) (otr standIn f (nonce-of 12) (data-of 5) 16 (message 33)) (otr standIn f (nonce-of 12) (data-of 6) 16 (message 33))
+
+pub data-tell : map alike (v1 ∷ v3 parallel ∷ v3 serial ∷ []) ≡ true ∷ true ∷ false ∷ []
+unfolding alike same standIn tableFrom xor zeros pad shift double doubles blocks pairsOf even short sum pairs body checksum te dataSum chain ta zipWith format tag sealed
 data-tell = refl

@@ -8,4 +8,4 @@ pub mod Sealing
 pub mod Opening
 pub mod Undoing
 pub mod Feeding
-pub mod Early
+pub mod EarlyPart

@@ -13,15 +13,15 @@ use Rattle.mode.specs.Form.{formOf}
 use Rattle.mode.specs.Edition.{Edition, v3}
 use Rattle.mode.specs.Masks.{Masks, IsCipher}
 use Rattle.mode.specs.Message.{pairsOf, pairs}
-use Rattle.mode.specs.Sealing.{masks, added, otr, otrInputs}
-use Rattle.mode.specs.Early.{early}
+use Rattle.mode.specs.Sealing.{masks, otr, otrInputs}
+use Rattle.mode.specs.EarlyPart.{early}
 use Rattle.mode.proofs.Edition.{is-parallel}
-use Rattle.mode.proofs.Early.{renamed, early-is, fed-tell, parallel-masks}
+use Rattle.mode.proofs.EarlyPart.{renamed, fed-tell, parallel-masks}
 use Rattle.pairs.proofs.Cipher.{is-cipher}
 use Rattle.link.specs.Answers.{runsOf}
 use Rattle.sealer.specs.Promises.{keyed, beginning}
-use Rattle.sessions.specs.Sessions.{outAfter, Came, goes-on, has-ended, Running, Alike}
-use Rattle.sessions.proofs.Sessions.{out-is, are, any-session}
+use Rattle.sessions.specs.Sessions.{outAfter, Came, goes-on, has-ended, Running, Alike, EarlyPart}
+use Rattle.sessions.proofs.Sessions.{out-is, are, out-front, any-session}
 
 module _ (C : ℕ → List ℕ → List ℕ → List ℕ) (ciphers : (nr : ℕ) (w : List ℕ) → IsCipher (C nr w)) (form : ℕ) (key nonce : List ℕ) (t : ℕ) where
   abbrev E : List ℕ → List ℕ
@@ -43,18 +43,14 @@ module _ (C : ℕ → List ℕ → List ℕ → List ℕ) (ciphers : (nr : ℕ) 
     where
       go : Came (otr E f nonce ad t) (λ n. length (otrInputs E f nonce ad t n)) m o (runsOf (beginning C form key nonce ad t .answer) + h .runs) (h .now)
           → o ≡ pairs E (k ad) (pairsOf (length m)) m
-      go (goes-on still long front) =
-          front
-          ∙ ap (λ (i : ℕ). take i (otr E f nonce ad t m)) (out-is (length m))
-          ∙ early-is E e (k ad) (are C ciphers form key nonce ad t (h .begun)) (pairsOf (length m)) (added E (E (zeros 16)) f nonce ad t) t m (omega arith)
+      go (goes-on still long front) = front ∙ out-front C ciphers form key nonce ad t (h .begun) m
       go (has-ended is all runs) = absurd (let going = h .going in let z : _≡_ {A = ℕ} 0 1 = cc in omega arith)
 
   masks-alike : (ad ad′ : List ℕ) → Alike form ad ad′ → k ad ≡ k ad′
   masks-alike ad ad′ (inl h) = parallel-masks E (E (zeros 16)) (E (zeros 16)) f (is-parallel form h) nonce ad ad′ t
   masks-alike ad ad′ (inr h) = ap k h
 
-  pub any-early : (ad ad′ m m′ o o′ : List ℕ) → Alike form ad ad′ → Running C form key nonce ad t m o → Running C form key nonce ad′ t m′ o′
-      → (o ≡ o′) ↔ (take (outAfter (length m)) m ≡ take (outAfter (length m′)) m′)
+  pub any-early : EarlyPart C form key nonce t
   any-early ad ad′ m m′ o o′ alike h h′ =
       let n′ = pairsOf (length m′) in
       let same-masks = ap (λ (l : Masks). pairs E l n′ m′) (sym (masks-alike ad ad′ alike)) in
@@ -64,6 +60,5 @@ module _ (C : ℕ → List ℕ → List ℕ → List ℕ) (ciphers : (nr : ℕ) 
       let at′ : take (outAfter (length m′)) m′ ≡ early n′ m′ = ap (λ (i : ℕ). take i m′) (out-is (length m′)) in
       (λ same. at ∙ tell .0 same ∙ sym at′, λ same. tell .1 (sym at ∙ same ∙ at′))
 
-pub session-early : (form : ℕ) (key nonce : List ℕ) (t : ℕ) (ad ad′ m m′ o o′ : List ℕ) → Alike form ad ad′ → Running cipher form key nonce ad t m o
-    → Running cipher form key nonce ad′ t m′ o′ → (o ≡ o′) ↔ (take (outAfter (length m)) m ≡ take (outAfter (length m′)) m′)
+pub session-early : (form : ℕ) (key nonce : List ℕ) (t : ℕ) → EarlyPart cipher form key nonce t
 session-early = any-early cipher is-cipher

@@ -26,6 +26,7 @@ use Rattle.mode.proofs.Counts.{pairs-are, pairs-within}
 use Rattle.mode.proofs.Pairs.{length-pairs}
 use Rattle.mode.proofs.Data.{length-dataTag}
 use Rattle.mode.proofs.Otr.{otr-masks, length-otr}
+use Rattle.mode.proofs.EarlyPart.{early-is}
 use Rattle.mode.proofs.Feeding.{reached, fed-joined, fed-inputs-joined, end-joined, end-inputs-joined, count-fed}
 use Rattle.link.specs.Answers.{numberOf, lengthOf, runsOf}
 use Rattle.link.specs.Checks.{Check, pass, stop, knownKey, callCheck}
@@ -133,6 +134,11 @@ module _ (C : ℕ → List ℕ → List ℕ → List ℕ) (ciphers : (nr : ℕ) 
           sealed-long m,
           pairs-within (length m),
         )
+
+    -- so many bytes of what one call seals are the pairs
+    pub out-front : (m : List ℕ) → take (outAfter (length m)) (otr E f nonce ad t m) ≡ pairs E k (pairsOf (length m)) m
+    out-front m =
+        ap (λ (n : ℕ). take n (otr E f nonce ad t m)) (out-is (length m)) ∙ early-is E e k are (pairsOf (length m)) a t m (omega arith)
 
     -- ---- how it stands once the bytes of m are taken in, o is out, and the cipher has run j times since the beginning
     data Stands (m o : List ℕ) (j : ℕ) (s : Sealer) : Type 0 where
@@ -265,11 +271,7 @@ module _ (C : ℕ → List ℕ → List ℕ → List ℕ) (ciphers : (nr : ℕ) 
       where
         go : Stands m o j last → Came (otr E f nonce ad t) (λ n. length (otrInputs E f nonce ad t n)) m o (runsOf (beginning C form key nonce ad t .answer) + j) last
         go (going hs short ho hj) =
-            let front : take (outAfter (length m)) (otr E f nonce ad t m) ≡ pairs E k (pairsOf (length m)) m =
-            ap (λ (n : ℕ). take n (otr E f nonce ad t m)) (out-is (length m))
-            ∙ ap (take (32 * pairsOf (length m))) (sym (end-joined E k m a t))
-            ∙ take-at (pairs E k (pairsOf (length m)) m) (endBytes E a t (reached k m)) (32 * pairsOf (length m)) (out-long m) in
-            goes-on (ap (λ (z : Sealer). goesOn (z .rounds) (z .tag) (z .fed)) hs ∙ goes m short) (ap length ho ∙ out-long m ∙ sym (out-is (length m))) (ho ∙ sym front)
+            goes-on (ap (λ (z : Sealer). goesOn (z .rounds) (z .tag) (z .fed)) hs ∙ goes m short) (ap length ho ∙ out-long m ∙ sym (out-is (length m))) (ho ∙ sym (out-front m))
         go (over hs ho hj) =
             let q = qInputs (withData ad) in
             let c = callInputs E (E (zeros 16)) f nonce ad t in

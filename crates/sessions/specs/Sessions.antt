@@ -1,7 +1,7 @@
 -- The words that the statements about sessions are made in. C is any cipher that goes by a round count and round keys.
 use mathlib.Core.Path.{_≡_}
 use mathlib.Core.Bool.{Bool, true, false}
-use mathlib.Core.Logic.{_⊎_}
+use mathlib.Core.Logic.{_⊎_, _↔_}
 use mathlib.Core.List.{List, [], _++_}
 use Prim.Native.Nat.{ℕ, zero, suc, _+_, _-_, _*_, _/_}
 use lib.Dec.{eqb}
@@ -64,7 +64,15 @@ pub record Running (C : ℕ → List ℕ → List ℕ → List ℕ) (form : ℕ)
   pub calls : Session C (beginning C form key nonce ad t .sealer) m o runs now
   pub going : goesOn (now .rounds) (now .tag) (now .fed) ≡ true
 
--- two data that, with the other settings the same, leave what comes out before the end alike: any in the parallel form, and in the serial
--- one, whose U is made of them, the same
+-- two data that, with all other settings the same, leave the masks alike: any in the parallel form, and in the serial one, whose U is made
+-- of them, the same
 abbrev pub Alike : ℕ → List ℕ → List ℕ → Type 0
 Alike form ad ad′ = (form ≡ 0) ⊎ (ad ≡ ad′)
+
+-- what has come out depends on those settings and on so many bytes of those taken in as wish 3 says are out, and tells these apart, exactly
+abbrev pub EarlyPart : (ℕ → List ℕ → List ℕ → List ℕ) → ℕ → List ℕ → List ℕ → ℕ → Type 0
+EarlyPart C form key nonce t =
+    (ad ad′ m m′ o o′ : List ℕ)
+    → Alike form ad ad′
+    → Running C form key nonce ad t m o → Running C form key nonce ad′ t m′ o′
+    → (o ≡ o′) ↔ (take (outAfter (length m)) m ≡ take (outAfter (length m′)) m′)

@@ -4,7 +4,7 @@
 use mathlib.Core.Path.{_≡_, sym, ap, subst, _∙_}
 use mathlib.Core.Logic.{_↔_}
 use mathlib.Core.List.{List, [], _++_, append-assoc}
-use Prim.Native.Nat.{ℕ, _+_, _*_, _≤_}
+use Prim.Native.Nat.{ℕ, _*_, _≤_}
 use native.Mathlib.Omega.{arith}
 use lib.ListN.{length, drop, take-append-drop}
 use lib.Seq.{length-take-le, take-at}
@@ -16,7 +16,7 @@ use Rattle.mode.specs.Nonce.{nonceBlock}
 use Rattle.mode.specs.Sealing.{tag, sealed, firstMask, dataTag, masks}
 use Rattle.mode.specs.Undoing.{swapped}
 use Rattle.mode.specs.Feeding.{from}
-use Rattle.mode.specs.Early.{early, Longer}
+use Rattle.mode.specs.EarlyPart.{early, Longer}
 use Rattle.mode.proofs.Counts.{pairs-are, pairs-within}
 use Rattle.mode.proofs.Pairs.{length-pairs, pairs-undone}
 use Rattle.mode.proofs.Front.{pairs-front}
@@ -85,8 +85,8 @@ module _ (E : List ℕ → List ℕ) (e : IsCipher E) (k : Masks) (s : AreMasks 
       λ same. as-many (omega (arith, ap length same, length-early n m (pairs-within (length m)), length-early n′ m′ (pairs-within (length m′)))) .1 same,
     )
 
--- ---- AES-OTR in the parallel form, which is v1's too: U goes by the nonce and the tag length, and not by the associated data, nor by the
--- first mask of their pass
+-- ---- AES-OTR in the parallel form, which is v1's too: U goes by the nonce block alone, whatever the associated data, and whatever the first
+-- mask of their pass
 pub parallel-masks : (E : List ℕ → List ℕ) (q q′ : List ℕ) (f : Edition) → formIn f ≡ parallel → (nonce ad ad′ : List ℕ) (t : ℕ)
     → masks E q f nonce ad t ≡ masks E q′ f nonce ad′ t
 parallel-masks E q q′ f is nonce ad ad′ t =
