@@ -85,8 +85,8 @@ module _ (E : List ℕ → List ℕ) (e : IsCipher E) (k : Masks) (s : AreMasks 
       λ same. as-many (omega (arith, ap length same, length-early n m (pairs-within (length m)), length-early n′ m′ (pairs-within (length m′)))) .1 same,
     )
 
--- ---- AES-OTR in the parallel form, which is v1's too: U goes by the nonce block alone, whatever the associated data, and whatever the first
--- mask of their pass
+-- ---- AES-OTR in the parallel form, which is v1's too: U goes by the nonce block alone, whatever the associated data, and whatever the
+-- first mask of their pass
 pub parallel-masks : (E : List ℕ → List ℕ) (q q′ : List ℕ) (f : Edition) → formIn f ≡ parallel → (nonce ad ad′ : List ℕ) (t : ℕ)
     → masks E q f nonce ad t ≡ masks E q′ f nonce ad′ t
 parallel-masks E q q′ f is nonce ad ad′ t =

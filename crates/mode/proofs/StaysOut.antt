@@ -8,8 +8,8 @@
 --
 -- Half a pair. Its cipher block is of both blocks of the pair, so that 16 bytes more tell what follows them (`half-a-pair`).
 --
--- The serial form. Its U is made of TA (source document 000, Fig. 3, EF-S, line 2), so that one message comes out otherwise with other data,
--- from the first pair on (`data-tell`).
+-- The serial form. Its U is made of TA (source document 000, Fig. 3, EF-S, line 2), so that one message comes out otherwise with other
+-- data, from the first pair on (`data-tell`).
 use mathlib.Core.Path.{_≡_, refl, sym, ap, ap₂, _∙_}
 use mathlib.Core.Bool.{Bool, true, false}
 use mathlib.Core.Logic.{_↔_}
