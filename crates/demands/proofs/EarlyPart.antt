@@ -1,9 +1,5 @@
--- Document 02, wish 12, for both editions, parallel form: one edition, key, nonce and tag length; of two messages longer than 32·j bytes,
--- both sealed with answer 0, what comes out agrees on the first 32·j bytes exactly if the messages do. Under a prepared key the first mask
--- of the data pass is the record's, and nothing is asked of it.
---
--- It is parallel only: the serial U is made of the associated data, so that two data give two first pairs of one message (`Rattle.mode`,
--- `StaysOut`, `data-tell`). A length of exactly 32·j stays out, and why is there too. Assumes nothing.
+-- Document 02, wish 12, for both editions, parallel form, with one edition, key, nonce and tag length. Under a prepared key the first mask
+-- of the data pass is the record's, and nothing is asked of it. Assumes nothing.
 use mathlib.Core.Path.{_≡_, ap, _∙_}
 use mathlib.Core.Bool.{Bool}
 use mathlib.Core.List.{List}
