@@ -11,9 +11,9 @@ use Rattle.link.specs.declared.answer.Answer.{Answer}
 -- and the buffer after, from the buffer out. Of two messages, each longer than 32·j bytes, both sealed with answer 0, what comes out
 -- agrees on the first 32·j bytes exactly if the messages do, whatever follows, and whatever the associated data.
 --
--- Promises have this in the parallel form alone. The serial U depends on the associated data (source document 000, Fig. 3, EF-S, line 2),
--- and two data give two first pairs of one message: computed in `Rattle.mode`, `StaysOut`, `data-tell`. Why a length of exactly 32·j stays
--- out is there too
+-- It is for the parallel form alone: the serial U depends on the associated data (source document 000, Fig. 3, EF-S, line 2), so that two
+-- data give two first pairs of one message (computed in `Rattle.mode`, `StaysOut`, `data-tell`). Why a length of exactly 32·j stays out is
+-- there too
 abbrev pub EarlyPart : (List ℕ → List ℕ → List ℕ → Answer → List ℕ → Type 0) → Type 0
 EarlyPart Sealed =
     (j : ℕ) (ad ad′ m m′ out out′ : List ℕ) (r r′ : Answer) (after after′ : List ℕ)

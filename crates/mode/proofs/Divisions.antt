@@ -17,7 +17,7 @@ use Rattle.mode.specs.Data.{dataSum, sumInputs, chain, chainInputs, ta, 
 use Rattle.mode.specs.Nonce.{format}
 use Rattle.mode.specs.Sealing.{masks, added, callInputs}
 use Rattle.mode.specs.Feeding.{Between, begun, fed, fedBytes, fedInputs, endBytes, endInputs}
-use Rattle.mode.proofs.Agreement.{standIn}
+use Rattle.mode.proofs.Agreement.{standIn, data-of, nonce-of}
 use Rattle.mode.proofs.Divided.{Row, expected}
 
 -- the calls behind the beginning, where i bytes are fed, each with its runs and what comes out; byte i of a message is 7i + 3
@@ -27,11 +27,11 @@ calls a t s i ((n, runs, long, x) ∷ parts) =
     let part = table (λ j. (7 * (i + j) + 3) % 256) n in
     (length (fedInputs standIn s part), fedBytes standIn s part) ∷ calls a t (fed s part) (i + n) parts
 
--- byte i of the data is 11i + 5, and of the nonce 13i + 1
+-- the beginning's runs, and the calls behind it
 pub computed : Row → ℕ × List (ℕ × List ℕ)
 computed (f, a, k, t, n, parts, runs, long, x) =
-    let nonce = table (λ i. (13 * i + 1) % 256) k in
-    let ad = table (λ i. (11 * i + 5) % 256) a in
+    let nonce = nonce-of k in
+    let ad = data-of a in
     let q = standIn (zeros 16) in (
       length (qInputs (withData ad) ++ callInputs standIn q (v3 (formOf f)) nonce ad t),
       calls (added standIn q (v3 (formOf f)) nonce ad t) t (begun (masks standIn q (v3 (formOf f)) nonce ad t)) 0 parts,

@@ -20,16 +20,16 @@ use Rattle.mode.specs.Message.{blocks, pairsOf, even, short, sum, pairs, pairsI
 use Rattle.mode.specs.Data.{dataSum, sumInputs, chain, chainInputs, ta, taInputs}
 use Rattle.mode.specs.Nonce.{format}
 use Rattle.mode.specs.Sealing.{tag, sealed, sealedInputs, otr, otrInputs}
+use Rattle.mode.proofs.Agreement.{message, data-of, nonce-of}
 use Rattle.rows.proofs.Expected.{Row, expected}
 
--- byte i of the key is 17i + 2, of the message 7i + 3, of the data 11i + 5, of the nonce 13i + 1
+-- byte i of the key is 17i + 2; the other strings are those of the rows over the stand-in cipher
 pub computed : Row → ℕ × List ℕ
 computed (e, f, key, m, a, k, t, n, x) =
     let E = aes (table (λ i. (17 * i + 2) % 256) key) in
-    let nonce = table (λ i. (13 * i + 1) % 256) k in
-    let ad = table (λ i. (11 * i + 5) % 256) a in
-    let message = table (λ i. (7 * i + 3) % 256) m in
-    (length (otrInputs E (editionOf e f) nonce ad t message), otr E (editionOf e f) nonce ad t message)
+    let nonce = nonce-of k in
+    let ad = data-of a in
+    (length (otrInputs E (editionOf e f) nonce ad t (message m)), otr E (editionOf e f) nonce ad t (message m))
 
 pub given : Row → ℕ × List ℕ
 given (e, f, key, m, a, k, t, n, x) = (n, bytes (m + t) x)
