@@ -27,7 +27,8 @@ extern "C" {
  * The number that a call returns is its whole answer. A call checks the edition, the form,
  * the key, the nonce, the tag length, the associated data, the length and the room, in this
  * order, and the first that is wrong is the answer. Opening then looks at the tag. There is
- * no 9 here: it belongs to sealing in parts, which has no call from C.
+ * no 9 here, which belongs to sealing in parts, and no 11, which belongs to carrying over:
+ * neither has a call from C.
  *
  * What the output holds afterwards:
  *   SHAFTLADDER_DONE     first the result; the bytes behind it are untouched.
@@ -88,7 +89,7 @@ enum shaftladder_form { SHAFTLADDER_PARALLEL = 0, SHAFTLADDER_SERIAL = 1 };
 /*
  * STACK that a call needs at most, in bytes, its arguments included. Measured and not
  * proved: calls at the seam lengths, in each edition and form and with every key length, ran
- * on a painted stack, and of the paint 6,432 bytes at most were gone (host/stack.c). glibc's
+ * on a painted stack, and of the paint 6,448 bytes at most were gone (host/stack.c). glibc's
  * memcpy and memset are in it, bound beforehand: a dynamic linker that binds them at their
  * first call needs more.
  */

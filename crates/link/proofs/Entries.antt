@@ -72,11 +72,12 @@ come-to-open c i come j k seal seal′ s out r after runs same (o, a, is, b) =
     (o, subst (λ (f : List ℕ → List ℕ). Allowed f s o) same a, is ∙ ap (λ (x : ℕ). openedAs i x o) runs, b)
 
 -- ---- the key
--- a round count that is known
-either : (a b : Bool) → (a || b) ≡ true → (a ≡ true) ⊎ (b ≡ true)
+-- one of two tests
+pub either : (a b : Bool) → (a || b) ≡ true → (a ≡ true) ⊎ (b ≡ true)
 either true b h = inl refl
 either false b h = inr h
 
+-- a round count that is known
 pub counted : (n : ℕ) → knownRounds n ≡ true → (10 ≤ n) × (n ≤ 14)
 counted n h = go (either (eqb n 10) (eqb n 12 || eqb n 14) h)
   where

@@ -1,12 +1,12 @@
 -- What the checks come to: they pass, and then every length is within its limits; or the first that fails stops the call with its
 -- own number. Assumes nothing.
-use mathlib.Core.Path.{_≡_, refl, sym, ap, subst, _∙_}
+use mathlib.Core.Path.{_≡_, refl, sym, ap, ap₂, subst, _∙_}
 use mathlib.Core.Bool.{Bool, true, false, _&&_}
 use mathlib.Core.List.{List}
 use Prim.Native.Nat.{ℕ, _+_, _-_, _≤_}
 use native.Mathlib.Omega.{arith}
 use lib.Dec.{leb}
-use borrow.Author.Tests.{leb-true}
+use borrow.Author.Tests.{leb-true, le-leb}
 use Rattle.lists.specs.Lay.{lay}
 use Rattle.link.specs.Answers.{numberOf}
 use Rattle.link.specs.Checks.{Check, pass, stop, from-to, unless, knownEdition, lastForm, callCheck, sealNext, openNext, asAnswer}
@@ -66,6 +66,9 @@ within l h a t =
     let p = and-true (leb l a) (leb a h) t in
     (leb-true l a (p .0), leb-true a h (p .1))
 
+pub in-range : (l h a : ℕ) → l ≤ a → a ≤ h → from-to l h a ≡ true
+in-range l h a p q = ap₂ _&&_ (le-leb l a p) (le-leb a h q)
+
 -- ---- what checks 10, 8 and 1 to 4 make sure of; k says whether the key is known
 pub record Called (edition form : ℕ) (k : Bool) (nonce t ad : ℕ) : Type 0 where
   pub editions : knownEdition edition ≡ true
@@ -84,9 +87,9 @@ OpenFits edition form k nonce t ad s o = Called edition form k nonce t ad × (t 
 
 module _ (edition form : ℕ) (k : Bool) (nonce t ad : ℕ) where
   -- whatever comes after them
-  after : (P : Type 0) (n : ℕ) (c : Check) → (Called edition form k nonce t ad → Verdict P n c) → Verdict P n (callCheck edition form k nonce t ad c)
+  pub then-verdict : (P : Type 0) (n : ℕ) (c : Check) → (Called edition form k nonce t ad → Verdict P n c) → Verdict P n (callCheck edition form k nonce t ad c)
   unfolding callCheck
-  after P n c f =
+  then-verdict P n c f =
       checked (knownEdition edition) Edition (λ z. omega arith) λ e.
       checked (leb form (lastForm edition)) Form (λ z. omega arith) λ p.
       checked k Key (λ z. omega arith) λ known.
@@ -96,24 +99,44 @@ module _ (edition form : ℕ) (k : Bool) (nonce t ad : ℕ) where
       f (record { editions = e; forms = leb-true form (lastForm edition) p; known = known; nonces = within 1 15 nonce s; tags = within 4 16 t g; data-most = leb-true ad 4096 a })
 
   pub call-verdict : Verdict (Called edition form k nonce t ad) 0 (callCheck edition form k nonce t ad (pass 0))
-  call-verdict = after (Called edition form k nonce t ad) 0 (pass 0) (λ h. passes h refl)
+  call-verdict = then-verdict (Called edition form k nonce t ad) 0 (pass 0) (λ h. passes h refl)
 
   call-passed : numberOf (asAnswer (callCheck edition form k nonce t ad (pass 0))) ≡ 0 → Called edition form k nonce t ad
   call-passed h = went-on call-verdict (asAnswer (callCheck edition form k nonce t ad (pass 0))) refl h .0
 
   pub seal-verdict : (m o : ℕ) → Verdict (SealFits edition form k nonce t ad m o) (m + t) (callCheck edition form k nonce t ad (sealNext t m o))
   seal-verdict m o =
-      after (SealFits edition form k nonce t ad m o) (m + t) (sealNext t m o) λ h.
+      then-verdict (SealFits edition form k nonce t ad m o) (m + t) (sealNext t m o) λ h.
       checked (leb m 16384) Length (λ z. omega arith) λ l.
       checked (leb (m + t) o) Room (λ z. omega arith) λ r.
       passes (h, leb-true m 16384 l, leb-true (m + t) o r) refl
 
   pub open-verdict : (s o : ℕ) → Verdict (OpenFits edition form k nonce t ad s o) (s - t) (callCheck edition form k nonce t ad (openNext t s o))
   open-verdict s o =
-      after (OpenFits edition form k nonce t ad s o) (s - t) (openNext t s o) λ h.
+      then-verdict (OpenFits edition form k nonce t ad s o) (s - t) (openNext t s o) λ h.
       checked (from-to t (16384 + t) s) Length (λ z. omega arith) λ l.
       checked (leb (s - t) o) Room (λ z. omega arith) λ r.
       passes (h, within t (16384 + t) s l .0, within t (16384 + t) s l .1, leb-true (s - t) o r) refl
+
+  -- ---- where all that they make sure of is so, they pass
+  module _ (f : Called edition form k nonce t ad) where
+    pub lets-by-all : (next : Check) → callCheck edition form k nonce t ad next ≡ next
+    unfolding callCheck
+    lets-by-all next =
+        rw (
+          f .editions,
+          le-leb form (lastForm edition) (f .forms),
+          f .known,
+          in-range 1 15 nonce (f .nonces .0) (f .nonces .1),
+          in-range 4 16 t (f .tags .0) (f .tags .1),
+          le-leb ad 4096 (f .data-most),
+        )
+
+    pub seal-passes : (m o : ℕ) → m ≤ 16384 → m + t ≤ o → callCheck edition form k nonce t ad (sealNext t m o) ≡ pass (m + t)
+    seal-passes m o p q = lets-by-all (sealNext t m o) ∙ rw (le-leb m 16384 p, le-leb (m + t) o q)
+
+    pub open-passes : (s o : ℕ) → t ≤ s → s ≤ 16384 + t → s - t ≤ o → callCheck edition form k nonce t ad (openNext t s o) ≡ pass (s - t)
+    open-passes s o p q r = lets-by-all (openNext t s o) ∙ rw (in-range t (16384 + t) s p q, le-leb (s - t) o r)
 
   -- ---- checks 10, 8 and 1 to 4 alone, as the code runs them: their answer, and its number
   guard : (next : Check) → Guard next (callCheck edition form k nonce t ad (pass 0)) (callCheck edition form k nonce t ad next)

@@ -1,9 +1,9 @@
--- Document 01, 'What comes back', and document 02, wishes 1, 3, 6 and 7: the number, the length and the runs of the cipher of each answer.
+-- Document 01, 'What comes back', and document 02, wishes 1, 3, 6, 7 and 8: the number, the length and the runs of the cipher of each answer.
 use mathlib.Core.List.{[], _∷_}
 use Prim.Native.Nat.{ℕ}
 use lib.ListN.{getD}
 use Rattle.link.specs.declared.answer.Answer.{Answer}
-use Rattle.link.specs.declared.answer.Answer.the-variants.{Done, Key, Nonce, Tag, Data, Length, Room, Forged, Form, Ended, Edition}
+use Rattle.link.specs.declared.answer.Answer.the-variants.{Done, Key, Nonce, Tag, Data, Length, Room, Forged, Form, Ended, Edition, SameKey}
 
 abbrev pub numberOf : Answer → ℕ
 numberOf (Done n k) = 0
@@ -17,6 +17,7 @@ numberOf (Forged k) = 7
 numberOf Form = 8
 numberOf Ended = 9
 numberOf Edition = 10
+numberOf SameKey = 11
 
 abbrev pub lengthOf : Answer → ℕ
 lengthOf (Done n k) = n
@@ -30,6 +31,7 @@ lengthOf (Forged k) = 0
 lengthOf Form = 0
 lengthOf Ended = 0
 lengthOf Edition = 0
+lengthOf SameKey = 0
 
 abbrev pub runsOf : Answer → ℕ
 runsOf (Done n k) = k
@@ -43,7 +45,8 @@ runsOf (Forged k) = k
 runsOf Form = 0
 runsOf Ended = 0
 runsOf Edition = 0
+runsOf SameKey = 0
 
--- the answer that a number from 0 to 10 stands for, where a call that is done has length n, and one that ran the cipher ran it k times
+-- the answer that a number from 0 to 11 stands for, where a call that is done has length n, and one that ran the cipher ran it k times
 abbrev pub answerOf : ℕ → ℕ → ℕ → Answer
-answerOf i n k = getD (Done n k ∷ Key ∷ Nonce ∷ Tag ∷ Data ∷ Length ∷ Room ∷ Forged k ∷ Form ∷ Ended ∷ Edition ∷ []) i Edition
+answerOf i n k = getD (Done n k ∷ Key ∷ Nonce ∷ Tag ∷ Data ∷ Length ∷ Room ∷ Forged k ∷ Form ∷ Ended ∷ Edition ∷ SameKey ∷ []) i SameKey

@@ -5,7 +5,8 @@ ghost use Rattle.link.specs.Answers.{numberOf, lengthOf, runsOf};
 pub enum Answer {
     // Done, with the number of bytes written, and how many times the cipher ran.
     Done { length: usize, runs: usize },
-    // The refusals 1 to 10, in the order of their numbers. Of these the cipher has run for 7 alone, and 9 is a sealer's alone.
+    // The refusals 1 to 11, in the order of their numbers. Of these the cipher has run for 7 alone; 9 is a sealer's, and 11 is for
+    // carrying over.
     Key,
     Nonce,
     Tag,
@@ -16,6 +17,7 @@ pub enum Answer {
     Form,
     Ended,
     Edition,
+    SameKey,
 }
 
 pub fn number(a: Answer) -> usize
@@ -33,6 +35,7 @@ pub fn number(a: Answer) -> usize
         Answer::Form => 8,
         Answer::Ended => 9,
         Answer::Edition => 10,
+        Answer::SameKey => 11,
     }
 }
 
@@ -51,6 +54,7 @@ pub fn length(a: Answer) -> usize
         Answer::Form => 0,
         Answer::Ended => 0,
         Answer::Edition => 0,
+        Answer::SameKey => 0,
     }
 }
 
@@ -69,5 +73,6 @@ pub fn runs(a: Answer) -> usize
         Answer::Form => 0,
         Answer::Ended => 0,
         Answer::Edition => 0,
+        Answer::SameKey => 0,
     }
 }

@@ -47,6 +47,9 @@ same-is false a b f g = go (same a b) refl
     go true e = g (same-true a b e)
     go false e = refl
 
+pub not-same : (a b : List ℕ) → (a ≡ b → ⊥) → same a b ≡ false
+not-same a b h = sym (same-is false a b (λ z. absurd (let n : _≡_ {A = ℕ} 0 1 = cc in omega arith)) (λ e. absurd (h e)))
+
 -- ---- one byte more of two strings
 module _ (a b : List ℕ) (i : ℕ) (ha : i < length a) (hb : i < length b) where
   pub take-more : take i a ≡ take i b → getD a i 0 ≡ getD b i 0 → take (i + 1) a ≡ take (i + 1) b

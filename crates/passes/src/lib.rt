@@ -15,7 +15,6 @@ ghost use Rattle.mode.specs.Undoing.{foundFrom, foundFromInputs};
 ghost use Rattle.passes.specs.Shown.{shown, flag};
 
 mod message;
-mod tag;
 
 // Whether the tag matches, and how many times the cipher ran.
 pub struct Opening {
@@ -85,13 +84,13 @@ pub fn open(
     let te = pass.block;
     let x = block::xor(te, added);
     let runs = with.runs + pass.runs;
-    if tag::same_tag(x, s, b, t) {
+    if lists::equal(&x[..t], &s[b..]) {
         return Opening {
             matches: true,
             runs: runs,
         };
     }
-    tag::clear(out, b);
+    lists::clear(out, b);
     Opening {
         matches: false,
         runs: runs,

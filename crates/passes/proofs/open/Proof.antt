@@ -4,8 +4,8 @@ use mathlib.Core.Bool.{Bool, true, false}
 use mathlib.Core.List.{List}
 use Prim.Native.Nat.{ℕ, _+_, _-_}
 use native.Mathlib.Omega.{arith}
-use lib.ListN.{length, take, drop, length-append}
-use lib.Seq.{length-take-le}
+use lib.ListN.{length, take, drop, length-append, length-drop}
+use lib.Seq.{length-take-le, take-all}
 use Rattle.lists.specs.Lay.{lay}
 use Rattle.lists.specs.Same.{same}
 use Rattle.lists.specs.Xor.{xor}
@@ -55,36 +55,42 @@ plain-long c =
     let e = is-cipher (v .nr) (v .w .now) in
     length-unbody (E c) e (k c) (otr-masks (E c) e (v .q) (editionOf (v .edition) (v .form)) (v .n .now) (v .a .now) (v .t) (length-ta (v .nr) (v .w .now) (v .q) (editionOf (v .edition) (v .form)) (v .a .now)) (c .pre .1 .1 .0 .1 .0)) (ciphertext c) ∙ cipher-long c
 
--- once the tags are compared
-abbrev open-of : tie.After-same-tag → tie.After-open
-open-of c = c .before .before .before .before .before .before .before
+-- the tag that came: all that stands behind the ciphertext
+tag-given : (c : tie.Start) → take (length (c .args .s .now) - (length (c .args .s .now) - c .args .t)) (drop (length (c .args .s .now) - c .args .t) (c .args .s .now)) ≡ drop (length (c .args .s .now) - c .args .t) (c .args .s .now)
+tag-given c =
+    let b = length (c .args .s .now) - c .args .t in
+    take-all (length (c .args .s .now) - b) (drop b (c .args .s .now)) (omega (arith, length-drop b (c .args .s .now)))
 
-abbrev with-of : tie.After-same-tag → tie.After-seals-with
+-- once the tags are compared
+abbrev open-of : tie.After-equal → tie.After-open
+open-of c = c .before .before .before .before .before .before .before .before .before
+
+abbrev with-of : tie.After-equal → tie.After-seals-with
 with-of c = open-of c .before .before .before .before .before
 
 abbrev opening-of : tie.After-open → tie.Start
 opening-of c = c .before .before .before .before .before .before .before .before .before .before
 
-abbrev start-of : tie.After-same-tag → tie.Start
+abbrev start-of : tie.After-equal → tie.Start
 start-of c = opening-of (open-of c)
 
-message-is : (c : tie.After-same-tag) → open-of c .«open» .last .1 .1 .1 .1 .1 .1 .0 ≡ lay 0 (plain (start-of c)) (start-of c .args .out .now)
+message-is : (c : tie.After-equal) → open-of c .«open» .last .1 .1 .1 .1 .1 .1 .0 ≡ lay 0 (plain (start-of c)) (start-of c .args .out .now)
 message-is c =
     let start = start-of c in
     open-of c .«open» .ensures .0
     ∙ ap (λ (j : Masks). lay 0 (unbody (E start) j (ciphertext start)) (start .args .out .now))
     (masks-alike (start .args .edition) (start .args .form) _ _ (with-of c .seals-with .ensures .0))
 
-answer-is : (c : tie.After-same-tag) → found (start-of c) ≡ answer (c .same-tag .result) (plain (start-of c))
+answer-is : (c : tie.After-equal) → found (start-of c) ≡ answer (c .equal .result) (plain (start-of c))
 answer-is c =
     let start = start-of c in
     let v = start .args in
     let with = with-of c .seals-with .ensures in
     let masks-are = masks-alike (v .edition) (v .form) _ _ (with .0) in
     let te-is = open-of c .«open» .ensures .1 .0 ∙ ap (λ (j : Masks). te (E start) j (unbody (E start) j (ciphertext start))) masks-are in
-    let x-is = c .before .before .before .xor .ensures ∙ ap₂ xor te-is (with .1 .0) in
-    opened-by (E start) (k start) (added (E start) (v .q) (editionOf (v .edition) (v .form)) (v .n .now) (v .a .now) (v .t)) (v .t) (v .s .now) (c .same-tag .result)
-    (sym (c .same-tag .ensures ∙ ap (λ (x : List ℕ). same (take (v .t) x) (drop (length (v .s .now) - v .t) (v .s .now))) x-is))
+    let x-is = c .before .before .before .before .before .xor .ensures ∙ ap₂ xor te-is (with .1 .0) in
+    opened-by (E start) (k start) (added (E start) (v .q) (editionOf (v .edition) (v .form)) (v .n .now) (v .a .now) (v .t)) (v .t) (v .s .now) (c .equal .result)
+    (sym (c .equal .ensures ∙ ap₂ (λ (x y : List ℕ). same (take (v .t) x) y) x-is (tag-given start)))
 
 -- the runs before the message pass, and its own
 runs-are : (c : tie.After-open)
@@ -113,10 +119,20 @@ open-requires c κs =
     let start = c .before .before .before .before .before .before .before .before .before in
     (start .pre .0, (start .pre .1 .0, omega (arith, cipher-long start, start .pre .1 .1 .1)))
 
-same-tag-requires : tie.Need-same-tag-requires
-same-tag-requires c κs =
-    let pre = opening-of (c .before .before .before .before .before .before) .pre in
-    (pre .1 .1 .0 .1 .1, omega (arith, pre .1 .1 .1))
+-- the two tags, as they are lent to the comparison
+x-long : (c : tie.After-xor) → length (c .xor .result) ≡ 16
+x-long c = search (c .xor .ok)
+
+array-share-prefix-x : tie.Need-array-share-prefix-x
+array-share-prefix-x c =
+    let start = opening-of (c .before .before .before .before .before .before) in
+    omega (arith, x-long (c .before .before), start .pre .1 .1 .0)
+
+slice-aggregate-equal : tie.Need-slice-aggregate-equal
+slice-aggregate-equal c =
+    let at-xor = c .before .before .before in
+    let start = opening-of (at-xor .before .before .before .before) in
+    sym (length-take-le (start .args .t) (at-xor .xor .result) (omega (arith, x-long at-xor, start .pre .1 .1 .0)))
 
 returns : tie.Need-returns
 returns c =
@@ -150,4 +166,4 @@ returns-2 c =
 
 pub open-spec : {M : Type 1} → statement M
 open-spec =
-    tie.close (tie.spec (λ c. search needs) (λ c κs. search needs) slice-aggregate-open open-requires (λ c κs. search needs) add-runs same-tag-requires (λ c. search needs) returns clear-requires (λ c. search needs) returns-2)
+    tie.close (tie.spec (λ c. search needs) (λ c κs. search needs) slice-aggregate-open open-requires (λ c κs. search needs) add-runs array-share-prefix-x slice-aggregate-equal (λ c. search needs) (λ c. search needs) (λ c. search needs) (λ c κs. search needs) (λ c. search needs) returns clear-requires (λ c. search needs) returns-2)

@@ -1,17 +1,17 @@
--- `passes::tag::clear` meets its contract. The loop's invariant: the first k bytes are zeros. Assumes nothing.
+-- `lists::clear` meets its contract. The loop's invariant: the first k bytes are zeros. Assumes nothing.
 use mathlib.Core.Path.{_≡_, refl, sym, ap, _∙_}
 use mathlib.Core.List.{List}
 use Prim.Native.Nat.{ℕ, _-_, _≤_}
 use native.Mathlib.Omega.{arith}
 use lib.ListN.{length, take, set, length-set, getD-replicate}
 use lib.Seq.{take-all}
 use Rattle.lists.specs.Lay.{lay}
 use Rattle.lists.specs.Zeros.{zeros}
 use Rattle.lists.proofs.Laid.{front-none, front-more}
 use Rattle.lists.proofs.Zeros.{length-zeros}
 use borrow.Author.Needs.{needs}
-use Rattle.passes.proofs.tag.clear.Statement.{statement}
-use Rattle.passes.proofs.tag.clear.Tie as tie
+use Rattle.lists.proofs.clear.Statement.{statement}
+use Rattle.lists.proofs.clear.Tie as tie
 
 abbrev Inv-loop : tie.InvT-loop
 Inv-loop out₀ n k₀ out k = (k ≤ n) × (out ≡ lay 0 (take k (zeros n)) out₀) × (length out ≡ length out₀)
