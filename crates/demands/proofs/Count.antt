@@ -109,23 +109,26 @@ editions-alike = named-alike v1 (v3 parallel)
 pub one-less : (f : Edition) (m ad : ℕ) → formula f m ad ≡ min 1 ad + formulaWith m ad
 one-less f m ad = sym (formula-is f m ad)
 
-module _ (edition form : ℕ) (key nonce ad : List ℕ) (t : ℕ) (out : List ℕ) (r : Answer) (after : List ℕ) where
+module _ (edition form : ℕ) (key nonce ad : List ℕ) (t : ℕ) where
   -- the runs for the first mask and those with it at hand
   with-zero : (others : List (List ℕ)) (m : ℕ) → length others ≡ 2 + (m + 15) / 16 + (length ad + 15) / 16
       → length (qInputs (withData ad) ++ others) ≡ formula (editionOf edition form) m (length ad)
   with-zero others m h =
       length-append (qInputs (withData ad)) others ∙ ap₂ _+_ (length-qInputs ad) h ∙ formula-is (editionOf edition form) m (length ad)
 
-  pub sealing-formula : (m : List ℕ) → Seals edition form key nonce ad m t out r after → numberOf r ≡ 0 → runsOf r ≡ formula (editionOf edition form) (length m) (length ad)
-  sealing-formula m p z =
-      sealing-counts edition form key nonce ad t out r after m p .ran (inl z)
-      ∙ with-zero _ (length m) (length-fromInputs (aes key) (aes key (zeros 16)) (editionOf edition form) nonce ad t m)
+  pub seal-runs : (m : List ℕ) → sealRuns edition form key nonce ad t m ≡ formula (editionOf edition form) (length m) (length ad)
+  seal-runs m = with-zero _ (length m) (length-fromInputs (aes key) (aes key (zeros 16)) (editionOf edition form) nonce ad t m)
 
-  pub opening-formula : (s : List ℕ) → Opens edition form key nonce ad s t out r after → (numberOf r ≡ 0) ⊎ (numberOf r ≡ 7)
-      → runsOf r ≡ formula (editionOf edition form) (length s - t) (length ad)
-  opening-formula s p z =
-      opening-counts edition form key nonce ad t out r after s p .ran z
-      ∙ with-zero _ (length s - t) (length-foundFromInputs (aes key) (aes key (zeros 16)) (editionOf edition form) nonce ad t s)
+  pub open-runs : (s : List ℕ) → openRuns edition form key nonce ad t s ≡ formula (editionOf edition form) (length s - t) (length ad)
+  open-runs s = with-zero _ (length s - t) (length-foundFromInputs (aes key) (aes key (zeros 16)) (editionOf edition form) nonce ad t s)
+
+  module _ (out : List ℕ) (r : Answer) (after : List ℕ) where
+    pub sealing-formula : (m : List ℕ) → Seals edition form key nonce ad m t out r after → numberOf r ≡ 0 → runsOf r ≡ formula (editionOf edition form) (length m) (length ad)
+    sealing-formula m p z = sealing-counts edition form key nonce ad t out r after m p .ran (inl z) ∙ seal-runs m
+
+    pub opening-formula : (s : List ℕ) → Opens edition form key nonce ad s t out r after → (numberOf r ≡ 0) ⊎ (numberOf r ≡ 7)
+        → runsOf r ≡ formula (editionOf edition form) (length s - t) (length ad)
+    opening-formula s p z = opening-counts edition form key nonce ad t out r after s p .ran z ∙ open-runs s
 
 module _ (edition form : ℕ) (p : Prepared) (nonce ad : List ℕ) (t : ℕ) (out : List ℕ) (r : Answer) (after : List ℕ) where
   pub sealing-with-formula : (m : List ℕ) → SealsWith edition form p nonce ad m t out r after → numberOf r ≡ 0 → runsOf r ≡ formulaWith (length m) (length ad)

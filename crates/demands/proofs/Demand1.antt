@@ -20,7 +20,7 @@ use Rattle.link.specs.declared.answer.Answer.the-variants.{Key, Nonce, Tag, Dat
 use Rattle.link.specs.declared.prepared.Prepared.{Prepared}
 use Rattle.link.proofs.Answers.{Answered, done, forged, refusal, answered}
 use Rattle.link.proofs.Verdicts.{Verdict, passes, stops, pass-or-stop, OpenFits, open-verdict}
-use Rattle.demands.specs.Calls.{firstFailing, keyKnown, roundsKnown, sealChecks, openChecks}
+use Rattle.demands.specs.Calls.{firstOf, firstFailing, keyKnown, roundsKnown, sealChecks, openChecks}
 
 -- the checks as a list and as an answer agree in the number
 number-of : (v a b c d e f g : Bool) (n : ℕ)
@@ -36,23 +36,23 @@ number-of true true false c d e f g n = refl
 number-of true false b c d e f g n = refl
 number-of false a b c d e f g n = refl
 
--- the first failing check is one of those listed: where none of them has the number k, it has not
-abbrev NoneIs : ℕ → List (ℕ × Bool) → Type 0
-NoneIs k [] = k ≡ 0 → ⊥
-NoneIs k ((n, b) ∷ checks) = (n ≡ k → ⊥) × NoneIs k checks
+-- what the first failing check answers is among what they answer: it has whatever all of that has
+abbrev pub AllAnswer : {A : Type 0} → (A → Type 0) → List (A × Bool) → Type 0
+AllAnswer P [] = Unit
+AllAnswer P ((a, b) ∷ checks) = P a × AllAnswer P checks
 
-not-first : (k : ℕ) (checks : List (ℕ × Bool)) → NoneIs k checks → firstFailing checks ≡ k → ⊥
-not-first k [] h e = h (sym e)
-not-first k ((n, true) ∷ checks) h e = not-first k checks (h .1) e
-not-first k ((n, false) ∷ checks) h e = h .0 e
+pub first-has : {A : Type 0} (P : A → Type 0) (none : A) (checks : List (A × Bool)) → P none → AllAnswer P checks → P (firstOf none checks)
+first-has P none [] n all = n
+first-has P none ((a, true) ∷ checks) n all = first-has P none checks n (all .1)
+first-has P none ((a, false) ∷ checks) n all = all .0
 
 never-7 : (v a b c d e f g : Bool) → firstFailing ((10, v) ∷ (8, a) ∷ (1, b) ∷ (2, c) ∷ (3, d) ∷ (4, e) ∷ (5, f) ∷ (6, g) ∷ []) ≡ 7 → ⊥
 never-7 v a b c d e f g =
-    not-first 7 ((10, v) ∷ (8, a) ∷ (1, b) ∷ (2, c) ∷ (3, d) ∷ (4, e) ∷ (5, f) ∷ (6, g) ∷ [])
-    (λ z. omega arith, (λ z. omega arith, (λ z. omega arith, (λ z. omega arith, (λ z. omega arith, (λ z. omega arith, (λ z. omega arith, (λ z. omega arith, (λ z. omega arith)))))))))
+    first-has (λ n. n ≡ 7 → ⊥) 0 ((10, v) ∷ (8, a) ∷ (1, b) ∷ (2, c) ∷ (3, d) ∷ (4, e) ∷ (5, f) ∷ (6, g) ∷ []) (λ z. omega arith)
+    (λ z. omega arith, (λ z. omega arith, (λ z. omega arith, (λ z. omega arith, (λ z. omega arith, (λ z. omega arith, (λ z. omega arith, (λ z. omega arith, tt))))))))
 
 -- a refusal has length 0
-refusal-length : (r : Answer) → (numberOf r ≡ 0 → ⊥) → lengthOf r ≡ 0
+pub refusal-length : (r : Answer) → (numberOf r ≡ 0 → ⊥) → lengthOf r ≡ 0
 refusal-length r z = go (answered r)
   where
     go : Answered r → lengthOf r ≡ 0

@@ -9,3 +9,5 @@ pub mod TagLength
 pub mod EarlyPart
 pub mod Unchanged
 pub mod Firmware
+pub mod CarryOver
+pub mod CarriedBack

@@ -1,12 +1,14 @@
 -- Within the limits every check passes. Assumes nothing.
-use mathlib.Core.Path.{_≡_, refl, ap, ap₂, _∙_}
-use mathlib.Core.Bool.{Bool, true, false, _&&_, _||_}
+use mathlib.Core.Path.{_≡_, refl, ap}
+use mathlib.Core.Bool.{Bool, true, false, _||_}
 use mathlib.Core.Logic.{inl, inr}
 use Prim.Native.Nat.{ℕ, _+_, _-_, _≤_}
 use native.Mathlib.Omega.{arith}
 use lib.Dec.{eqb, leb}
-use borrow.Author.Tests.{eq-eqb, le-leb}
-use Rattle.link.specs.Checks.{Check, pass, from-to, lastForm, callCheck, sealNext, openNext}
+use borrow.Author.Tests.{eq-eqb, leb-true, le-leb}
+use Rattle.link.specs.Checks.{pass, lastForm, callCheck, sealNext, openNext}
+use Rattle.link.proofs.Verdicts as Verdicts
+use Rattle.link.proofs.Verdicts.{Called}
 use Rattle.demands.specs.Calls.{Named, Limits, OneOf}
 
 left : (x y : Bool) → x ≡ true → (x || y) ≡ true
@@ -33,19 +35,20 @@ form-known e form (inr (is, f)) =
     let last : lastForm e ≡ 1 = ap lastForm is in
     le-leb form (lastForm e) (omega arith)
 
-range : (l h a : ℕ) → l ≤ a → a ≤ h → from-to l h a ≡ true
-range l h a p q = ap₂ _&&_ (le-leb l a p) (le-leb a h q)
-
 module _ (edition form : ℕ) (known : Bool) (nonce t ad : ℕ) (is : known ≡ true) (f : Limits edition form nonce t ad) where
-  call-passes : (next : Check) → callCheck edition form known nonce t ad next ≡ next
-  unfolding callCheck
-  call-passes next =
-      rw (edition-known edition form (f .named), form-known edition form (f .named), is, range 1 15 nonce (f .nonces .0) (f .nonces .1), range 4 16 t (f .tags .0) (f .tags .1), le-leb ad 4096 (f .most))
+  pub within : Called edition form known nonce t ad
+  within =
+      record {
+        editions = edition-known edition form (f .named);
+        forms = leb-true form (lastForm edition) (form-known edition form (f .named));
+        known = is;
+        nonces = f .nonces;
+        tags = f .tags;
+        data-most = f .most;
+      }
 
   pub seal-passes : (m o : ℕ) → m ≤ 16384 → m + t ≤ o → callCheck edition form known nonce t ad (sealNext t m o) ≡ pass (m + t)
-  seal-passes m o p q =
-      call-passes (sealNext t m o) ∙ rw (le-leb m 16384 p, le-leb (m + t) o q)
+  seal-passes = Verdicts.seal-passes edition form known nonce t ad within
 
   pub open-passes : (s o : ℕ) → t ≤ s → s ≤ 16384 + t → s - t ≤ o → callCheck edition form known nonce t ad (openNext t s o) ≡ pass (s - t)
-  open-passes s o p q r =
-      call-passes (openNext t s o) ∙ rw (range t (16384 + t) s p q, le-leb (s - t) o r)
+  open-passes = Verdicts.open-passes edition form known nonce t ad within

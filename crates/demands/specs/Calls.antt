@@ -11,11 +11,15 @@ use Rattle.mode.specs.Edition.{Edition, v1, v3}
 use Rattle.link.specs.Checks.{from-to, lastForm}
 use Rattle.link.specs.declared.prepared.Prepared.{Prepared}
 
--- checks in their order, each with its number and whether it passes: the number of the first that fails, and 0 where none does
+-- checks in their order, each with what it answers and whether it passes: what the first that fails answers, and `none` where none does
+abbrev pub firstOf : {A : Type 0} → A → List (A × Bool) → A
+firstOf none [] = none
+firstOf none ((a, true) ∷ checks) = firstOf none checks
+firstOf none ((a, false) ∷ checks) = a
+
+-- by their numbers
 abbrev pub firstFailing : List (ℕ × Bool) → ℕ
-firstFailing [] = 0
-firstFailing ((n, true) ∷ checks) = firstFailing checks
-firstFailing ((n, false) ∷ checks) = n
+firstFailing checks = firstOf 0 checks
 
 -- check 1: whether a raw key is known, by its bytes, and a prepared one, by its rounds (document 02, wish 9)
 abbrev pub keyKnown : List ℕ → Bool

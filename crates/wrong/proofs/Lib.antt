@@ -4,3 +4,4 @@ pub mod Editions
 pub mod Held
 pub mod Prepared
 pub mod Firmware
+pub mod Carrying
