@@ -52,13 +52,10 @@ pub fn open(
     t: usize,
     output: &mut [u8],
 ) -> Answer {
-    let (edition, aes, mask) = match checked_to_4(mode, key, nonce, data, t) {
+    let (edition, aes, mask) = match checked_to_5(mode, key, nonce, data, sealed, t) {
         Ok(checked) => checked,
         Err(number) => return refused(number),
     };
-    if sealed.len() < t || sealed.len() > MESSAGE_MAX + t {
-        return refused(5);
-    }
     let message_bytes = sealed.len() - t;
     if output.len() < message_bytes {
         return refused(6);
@@ -94,6 +91,23 @@ pub fn checked_to_4(
         Err(4)
     } else {
         Ok((edition, aes, first_mask))
+    }
+}
+
+/// Those, then an opening's 5.
+pub fn checked_to_5(
+    mode: Mode,
+    key: &Key,
+    nonce: &[u8],
+    data: &[u8],
+    sealed: &[u8],
+    t: usize,
+) -> Result<(Edition, Aes, FirstMask), u8> {
+    let checked = checked_to_4(mode, key, nonce, data, t)?;
+    if sealed.len() < t || sealed.len() > MESSAGE_MAX + t {
+        Err(5)
+    } else {
+        Ok(checked)
     }
 }
 

@@ -1,6 +1,7 @@
 //! One line to the console, and the line that it must answer, each with its end.
 
 use crate::call::Answer;
+use crate::carry_request::CarryRequest;
 use crate::hex;
 use crate::record::prepare;
 use crate::request::Request;
@@ -32,6 +33,18 @@ impl Exchange {
         Exchange {
             request: format!("prepare {}\n", hex::field(key)),
             answer: format!("{number} {runs} {}\n", prepared.record.fields()),
+        }
+    }
+
+    /// A carrying, answered by `NUMBER SIDE LENGTH RUNS OUTPUT WORK`.
+    pub fn of_carrying(request: &CarryRequest) -> Exchange {
+        let carried = request.call();
+        let (side, answer) = (carried.side as u8, carried.answer);
+        let [output, work] = [carried.output, carried.work].map(|buffer| hex::field(&buffer));
+        let (number, length, runs) = (answer.number, answer.length, answer.runs);
+        Exchange {
+            request: request.request_line(),
+            answer: format!("{number} {side} {length} {runs} {output} {work}\n"),
         }
     }
 }

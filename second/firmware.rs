@@ -5,13 +5,10 @@ use crate::failure::{bad_input, Failure};
 use crate::files;
 use crate::generator::Generator;
 use crate::request::{Kind, Request};
-use crate::seam_lengths::{Lengths, DATA, MESSAGES, USUAL};
+use crate::seam_lengths::{Lengths, DATA, KEYS, MESSAGES, NONCES, TAGS, USUAL};
 use crate::seam_requests::{other_bytes, sealing, two_faults};
 
 const SEED: u64 = u64::MAX - 1;
-const KEYS: [usize; 3] = [16, 24, 32];
-const NONCES: [usize; 3] = [1, 12, 15];
-const TAGS: [usize; 3] = [4, 15, 16];
 const BEYOND_32_BITS: usize = 1 << 32;
 
 pub fn command(

@@ -1,13 +1,21 @@
 //! Shaftladder's independent second program: AES-OTR v3.1 with parallel and serial ADP and v1
-//! with parallel ADP, written from the papers (000, 003) and the exact rules (01, and wishes 1,
-//! 3, 5, 6, 7 and 9 of 02) alone. See README.md.
+//! with parallel ADP, written from the papers (000, 003) and the exact rules (01, and wishes 1, 3
+//! and 5 to 9 of 02) alone. See README.md.
 
 mod aes;
 mod aes_rows;
+mod archive;
 mod bench;
 mod bits;
 mod block;
 mod call;
+mod carry_faults;
+mod carry_keys;
+mod carry_request;
+mod carry_requests;
+mod carrying;
+#[cfg(test)]
+mod carrying_tests;
 mod console_sealer;
 mod data_pass;
 mod division;
@@ -35,6 +43,7 @@ mod parts_tests;
 mod prepared;
 #[cfg(test)]
 mod prepared_tests;
+mod random_carry;
 mod random_prepared;
 mod random_requests;
 mod record;
@@ -104,6 +113,8 @@ fn run(words: &[String]) -> Result<String, Failure> {
         ("requests", _) => requests::command(rest),
         ("prepared", _) => prepared::command(rest),
         ("parts", _) => parts::command(rest),
+        ("carry", _) => carry_requests::command(rest),
+        ("archive", [archive, carried]) => archive::command(archive, carried),
         ("night", []) => Ok(bench::night()),
         ("bench", _) => bench::sealed(rest),
         ("known", _) => known::command(rest),
@@ -122,6 +133,8 @@ fn usage() -> Failure {
                 \u{20}      second requests SEED COUNT FILE_REQUESTS FILE_ANSWERS\n\
                 \u{20}      second prepared SEED COUNT FILE_REQUESTS FILE_ANSWERS\n\
                 \u{20}      second parts SEED COUNT FILE_REQUESTS FILE_ANSWERS\n\
+                \u{20}      second carry SEED COUNT FILE_REQUESTS FILE_ANSWERS\n\
+                \u{20}      second archive FILE_ARCHIVE FILE_CARRIED\n\
                 \u{20}      second night\n\
                 \u{20}      second bench EDITION FORM KEY_BYTES MESSAGE_BYTES\n\
                 \u{20}      second known FILE...";

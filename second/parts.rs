@@ -83,7 +83,7 @@ fn lengths(turn: usize, message: usize) -> Lengths {
 }
 
 /// On both sides of each limit that a beginning has.
-fn limits() -> Vec<Lengths> {
+pub fn limits() -> Vec<Lengths> {
     let mut list = Vec::new();
     for key in [0, 15, 16, 17, 23, 24, 25, 31, 32, 33] {
         list.push(Lengths { key, ..USUAL });

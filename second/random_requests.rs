@@ -1,6 +1,7 @@
 //! Requests from the seeded generator: sound ones, some with a mishap or two.
 
 use crate::call::{DATA_MAX, MESSAGE_MAX};
+use crate::carrying::other_edition;
 use crate::edition::{Mode, MODES};
 use crate::generator::Generator;
 use crate::key::Key;
@@ -26,15 +27,15 @@ pub fn random_call(draw: &mut Generator, sealing: Request) -> Request {
         mishap(draw, &mut request);
     }
     if draw.one_in(8) {
-        request.mode.edition = other_edition(draw, request.mode.edition);
+        request.mode.edition = some_other_edition(draw, request.mode.edition);
     }
     request
 }
 
 /// 1 for 3 and 3 for 1, or one that is neither.
-fn other_edition(draw: &mut Generator, edition: usize) -> usize {
+pub fn some_other_edition(draw: &mut Generator, edition: usize) -> usize {
     if draw.one_in(2) {
-        4 - edition
+        other_edition(edition)
     } else {
         draw.pick(&NO_EDITIONS)
     }
@@ -72,7 +73,7 @@ fn some_length(draw: &mut Generator) -> usize {
     }
 }
 
-fn some_slack(draw: &mut Generator) -> usize {
+pub fn some_slack(draw: &mut Generator) -> usize {
     if draw.one_in(2) {
         0
     } else {

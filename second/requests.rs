@@ -1,4 +1,4 @@
-//! The command `requests`, and what it shares with `prepared` and `parts`: the file of
+//! The command `requests`, and what it shares with `prepared`, `parts` and `carry`: the file of
 //! requests and the file of answers.
 
 use crate::exchange::Exchange;

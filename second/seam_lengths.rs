@@ -37,6 +37,11 @@ pub const MESSAGES: [usize; 11] = [
 /// The associated data that 01 has run and compared.
 pub const DATA: [usize; 6] = [0, 1, 15, 16, 17, DATA_MAX];
 
+/// The other lengths that are combined with these.
+pub const KEYS: [usize; 3] = [16, 24, 32];
+pub const NONCES: [usize; 3] = [1, 12, 15];
+pub const TAGS: [usize; 3] = [4, 15, 16];
+
 pub fn seam_lengths() -> Vec<Lengths> {
     let mut list = Vec::new();
     for key in [16, 24, 32] {

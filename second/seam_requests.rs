@@ -8,8 +8,8 @@ use crate::request::{Kind, Request};
 use crate::seam_lengths::{seam_lengths, Lengths, USUAL};
 
 const SEED: u64 = u64::MAX;
-const AMPLE: usize = 37;
-const ROOM_MAX: usize = 20_480;
+pub const AMPLE: usize = 37;
+pub const ROOM_MAX: usize = 20_480;
 /// Up to the largest number that a request may have. Of 257 and 259 the last byte alone would
 /// be sound.
 pub const NO_EDITIONS: [usize; 9] = [0, 2, 4, 5, 255, 256, 257, 259, 65_535];
@@ -96,7 +96,7 @@ pub fn other_bytes(draw: &mut Generator, sealing: &Request) -> Request {
 }
 
 /// One short (where that is not negative), exact and ample, from exact.
-fn three_rooms(request: &Request) -> Vec<Request> {
+pub fn three_rooms(request: &Request) -> Vec<Request> {
     let exact = request.room;
     let rooms = exact
         .checked_sub(1)
@@ -111,25 +111,36 @@ fn three_rooms(request: &Request) -> Vec<Request> {
 }
 
 /// The opening with one bit changed in each string that has one.
-fn one_bit_changed(draw: &mut Generator, opening: &Request) -> Vec<Request> {
+pub fn one_bit_changed(draw: &mut Generator, opening: &Request) -> Vec<Request> {
     let message_bytes = opening.body.len() - opening.t;
-    let mut list = Vec::new();
-    for string in 0..5 {
-        let mut damaged = opening.clone();
-        let (ciphertext, tag) = damaged.body.split_at_mut(message_bytes);
-        let bytes = match string {
-            0 => ciphertext,
-            1 => tag,
-            2 => &mut damaged.nonce,
-            3 => &mut damaged.data,
-            _ => damaged.key.bytes_mut(),
-        };
-        if !bytes.is_empty() {
-            draw.change_bit(bytes);
-            list.push(damaged);
-        }
-    }
+    let ciphertext = one_bit_in(draw, opening, |request| &mut request.body[..message_bytes]);
+    let tag = one_bit_in(draw, opening, |request| &mut request.body[message_bytes..]);
+    let mut list: Vec<Request> = ciphertext.into_iter().chain(tag).collect();
+    list.extend(one_bit_of_settings(draw, opening));
     list
+}
+
+/// The same in its nonce, its data and its key.
+pub fn one_bit_of_settings(draw: &mut Generator, request: &Request) -> Vec<Request> {
+    let nonce = one_bit_in(draw, request, |request| &mut request.nonce);
+    let data = one_bit_in(draw, request, |request| &mut request.data);
+    let key = one_bit_in(draw, request, |request| request.key.bytes_mut());
+    [nonce, data, key].into_iter().flatten().collect()
+}
+
+/// None where the string has no bit.
+fn one_bit_in(
+    draw: &mut Generator,
+    request: &Request,
+    string: impl FnOnce(&mut Request) -> &mut [u8],
+) -> Option<Request> {
+    let mut changed = request.clone();
+    let bytes = string(&mut changed);
+    if bytes.is_empty() {
+        return None;
+    }
+    draw.change_bit(bytes);
+    Some(changed)
 }
 
 /// Openings of 0, t - 1 and t bytes that nobody sealed.
@@ -176,19 +187,36 @@ pub fn two_faults_of(
     faults: &[u8],
     sound: impl Fn(&mut Generator) -> Request,
 ) -> Vec<Request> {
+    with_both(draw, every_two(faults), sound, add_fault)
+}
+
+/// For each pair of faults a request that is drawn by `sound`, with both.
+pub fn with_both<F, R>(
+    draw: &mut Generator,
+    pairs: Vec<(F, F)>,
+    sound: impl Fn(&mut Generator) -> R,
+    add: impl Fn(&mut Generator, &mut R, F),
+) -> Vec<R> {
     let mut list = Vec::new();
-    for (place, &first) in faults.iter().enumerate() {
-        for &second in &faults[place..] {
-            let mut request = sound(draw);
-            add_fault(draw, &mut request, first);
-            add_fault(draw, &mut request, second);
-            list.push(request);
-        }
+    for (first, second) in pairs {
+        let mut request = sound(draw);
+        add(draw, &mut request, first);
+        add(draw, &mut request, second);
+        list.push(request);
     }
     list
 }
 
-fn add_fault(draw: &mut Generator, request: &mut Request, number: u8) {
+/// Each with itself, which is the fault alone, and with each that is checked after it.
+pub fn every_two<F: Copy>(faults: &[F]) -> Vec<(F, F)> {
+    let mut list = Vec::new();
+    for (place, &first) in faults.iter().enumerate() {
+        list.extend(faults[place..].iter().map(|&second| (first, second)));
+    }
+    list
+}
+
+pub fn add_fault(draw: &mut Generator, request: &mut Request, number: u8) {
     match number {
         10 => request.mode.edition = 2,
         8 => request.mode.form = no_form(request.mode.edition),

@@ -56,7 +56,7 @@ impl Line {
     }
 }
 
-fn field(text: &str) -> Vec<u8> {
+pub fn field(text: &str) -> Vec<u8> {
     match text {
         "-" => Vec::new(),
         _ => bytes(text),

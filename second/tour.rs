@@ -2,8 +2,9 @@
 //! must print.
 
 use crate::call::DATA_MAX;
+use crate::carry_request::CarryRequest;
 use crate::console_sealer::ConsoleSealer;
-use crate::edition::{FIRST, THIRD_PARALLEL};
+use crate::edition::{FIRST, THIRD_PARALLEL, THIRD_SERIAL};
 use crate::exchange::Exchange;
 use crate::failure::Failure;
 use crate::files;
@@ -34,6 +35,7 @@ pub fn command(file_requests: &str, file_answers: &str) -> Result<String, Failur
     first_edition(&mut tour, &sealing);
     prepared(&mut tour, &sealing);
     parts(&mut tour, &sealing);
+    carrying(&mut tour, &sealing);
     refusals(&mut tour, &sealing, &opening);
     bad_lines(&mut tour);
     files::write(file_requests, &tour.requests)?;
@@ -233,6 +235,69 @@ fn parts(tour: &mut Tour, sealing: &Request) {
     }
 }
 
+/// Wish 8 of 02.
+fn carrying(tour: &mut Tour, sealing: &Request) {
+    let from = Request {
+        mode: FIRST,
+        ..sealing.clone()
+    };
+    let to = Request {
+        mode: THIRD_SERIAL,
+        key: Key::Raw(rules::key(32)),
+        nonce: rules::nonce(15),
+        data: b"archive".to_vec(),
+        ..sealing.clone()
+    };
+    let over = with_some_room(CarryRequest::of(&from, to));
+    tour.carry(
+        "0 0: carried over from the first edition to the third, with a key, a nonce and data of its own: the record sealed anew. In the work buffer there are zeros where the message stood. The cipher ran 5 times to open and 5 to seal.",
+        &over,
+    );
+    let back = over.back().map(with_some_room);
+    let back = back.expect("the tour's record is carried");
+    tour.carry(
+        "0 0: carried back with the sides exchanged: the first record again.",
+        &back,
+    );
+    carryings_refused(tour, &over, &back);
+}
+
+fn with_some_room(mut request: CarryRequest) -> CarryRequest {
+    request.new.room += 4;
+    request.old.room += 4;
+    request
+}
+
+fn carryings_refused(tour: &mut Tour, over: &CarryRequest, back: &CarryRequest) {
+    tour.carry_changed(
+        "7 1: one bit of the record changed. The old side does not open, for its 5 runs, and the output stays as it was.",
+        over,
+        |request| request.old.body[0] ^= 1,
+    );
+    tour.carry_changed("11 0: both keys the same.", over, |request| {
+        request.new.key = request.old.key.clone();
+    });
+    tour.carry_changed("6 0: output for one byte too few.", over, |request| {
+        request.new.room = request.old.body.len() - 1;
+    });
+    tour.carry_changed("6 0: work buffer for one byte too few.", over, |request| {
+        request.old.room = request.new.body.len() - 1;
+    });
+    tour.carry_changed(
+        "8 2: back to the serial form, which the first edition does not have.",
+        back,
+        |request| request.new.mode.form = 1,
+    );
+    tour.carry_changed(
+        "1 1: a key of 17 bytes on the old side, and a nonce of 16 on the new one.",
+        over,
+        |request| {
+            request.old.key = Key::Raw(rules::key(17));
+            request.new.nonce = rules::nonce(16);
+        },
+    );
+}
+
 fn refusals(tour: &mut Tour, sealing: &Request, opening: &Request) {
     tour.changed(
         "8: a form that is neither parallel (0) nor serial (1).",
@@ -291,12 +356,26 @@ fn bad_lines(tour: &mut Tour) {
         "A beginning with a field too many.",
         "begin 0 00 01 02 16 4",
     );
+    tour.bad(
+        "A carrying with a field too few.",
+        "carry 1 0 00 01 02 4 03 0 04 05 06 4",
+    );
+    tour.bad(
+        "A larger work buffer than there is.",
+        "carry 1 0 00 01 02 4 03 0 04 05 06 4 20481",
+    );
 }
 
 /// A sealing under a record of zeros, with so many bytes of round keys and of first mask.
 fn under_zeros(round_keys: usize, zero: usize) -> String {
     let [words, zero] = [round_keys, zero].map(|len| hex::encode(&vec![0; len]));
     format!("seal-with 3 0 10 {words} {zero} 01 02 03 16 17")
+}
+
+fn after<R: Clone>(request: &R, change: fn(&mut R)) -> R {
+    let mut changed = request.clone();
+    change(&mut changed);
+    changed
 }
 
 #[derive(Default)]
@@ -321,9 +400,21 @@ impl Tour {
 
     /// The call after a change to the request.
     fn changed(&mut self, words: &str, request: &Request, change: fn(&mut Request)) {
-        let mut request = request.clone();
-        change(&mut request);
-        self.call(words, &request);
+        self.call(words, &after(request, change));
+    }
+
+    fn carry(&mut self, words: &str, request: &CarryRequest) {
+        self.exchange(words, &Exchange::of_carrying(request));
+    }
+
+    /// The carrying after a change to the request.
+    fn carry_changed(
+        &mut self,
+        words: &str,
+        request: &CarryRequest,
+        change: fn(&mut CarryRequest),
+    ) {
+        self.carry(words, &after(request, change));
     }
 
     fn bad(&mut self, words: &str, line: &str) {

@@ -8,14 +8,17 @@ use Rattle.console.specs.declared.fields.Field.the-variants.{Bytes, Numb
 use Rattle.console.specs.declared.fields.Part.{Part}
 use Rattle.console.specs.declared.fields.Two.{Two}
 use Rattle.console.specs.declared.fields.Two.the-variants.{Bytes as BothBytes, Bad as NoTwo}
-use Rattle.console.specs.declared.request.Beginning.{Beginning}
+use Rattle.console.specs.declared.request.Carrying.{Carrying}
 use Rattle.console.specs.declared.request.Feeding.{Feeding}
+use Rattle.console.specs.declared.request.Four.{Four}
+use Rattle.console.specs.declared.request.Four.the-variants.{Fields, Bad as NoFour}
 use Rattle.console.specs.declared.request.Key.{Key}
 use Rattle.console.specs.declared.request.Key.the-variants.{Raw, Prepared}
 use Rattle.console.specs.declared.request.Line.{Line}
-use Rattle.console.specs.declared.request.Line.the-variants.{Request as Asked, Prepare, Begin, Feed, End, PassedOver, Bad as BadLine}
+use Rattle.console.specs.declared.request.Line.the-variants.{Request as Asked, Prepare, Begin, Carry, Feed, End, PassedOver, Bad as BadLine}
 use Rattle.console.specs.declared.request.Record.{Record}
 use Rattle.console.specs.declared.request.Request.{Request}
+use Rattle.console.specs.declared.request.Settings.{Settings}
 use Rattle.console.specs.declared.request.Start.{Start}
 use Rattle.console.specs.declared.request.Start.the-variants.{Under, Bad as NoStart}
 use Rattle.console.specs.declared.request.Strings.{Strings}
@@ -68,11 +71,23 @@ pub record Within (n : ℕ) (s : Strings) : Type 0 where
 abbrev pub Sound : ℕ → Request → Type 0
 Sound n r = Within n (r .strings) × (r .room ≤ 20480)
 
--- the strings of a request to begin lie in its line, of n bytes
-pub record Begun (n : ℕ) (b : Beginning) : Type 0 where
-  pub key : Inside n (b .key)
-  pub nonce : Inside n (b .nonce)
-  pub «data» : Inside n (b .«data»)
+-- the strings of settings lie in a line of n bytes; and so where they were read
+pub record Set (n : ℕ) (s : Settings) : Type 0 where
+  pub key : Inside n (s .key)
+  pub nonce : Inside n (s .nonce)
+  pub «data» : Inside n (s .«data»)
+
+abbrev pub AllSet : ℕ → Four → Type 0
+AllSet n (Fields s next) = Set n s
+AllSet n NoFour = Unit
+
+-- the strings of a request to carry over lie in its line, of n bytes, and its two buffers are no larger than one may be
+pub record Carriable (n : ℕ) (c : Carrying) : Type 0 where
+  pub old : Set n (c .old)
+  pub sealed : Inside n (c .sealed)
+  pub new : Set n (c .new)
+  pub room : c .room ≤ 20480
+  pub work : c .work ≤ 20480
 
 -- the part that a request feeds lies in its line, of n bytes, and its output buffer is no larger than one may be
 abbrev pub Fed : ℕ → Feeding → Type 0
@@ -82,13 +97,14 @@ Fed n f = Inside n (f .part) × (f .room ≤ 20480)
 abbrev pub Good : ℕ → Line → Type 0
 Good n (Asked r) = Sound n r
 Good n (Prepare p) = Inside n p
-Good n (Begin b) = Begun n b
+Good n (Begin b) = Set n (b .settings)
+Good n (Carry c) = Carriable n c
 Good n (Feed f) = Fed n f
 Good n (End room) = room ≤ 20480
 Good n PassedOver = Unit
 Good n BadLine = Unit
 
--- room for the largest output buffer, and for the longest answer line: two digits a byte, three numbers of at most 20 digits, and five
--- bytes more
+-- room for the largest output buffer, and for the longest that is written at once: two digits a byte, four numbers of at most 20 digits
+-- with a space behind each, and two bytes more
 abbrev pub Enough : ℕ → ℕ → Type 0
-Enough output text = (20480 ≤ output) × (41025 ≤ text)
+Enough output text = (20480 ≤ output) × (41046 ≤ text)

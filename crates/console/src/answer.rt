@@ -1,7 +1,10 @@
-// The answer lines. Each is put together whole, in a text that the caller lends, before any of it is written.
+// The answer lines. Each is put together whole, in a text that the caller lends, before any of it is written; that of carrying a record
+// over, which has two buffers, in two pieces.
 ghost use mathlib.Core.Path.{_≡_};
 ghost use Prim.Native.Nat.{_+_, _*_, _≤_, _<_};
 ghost use lib.ListN.{length};
+use carrying::Carried;
+use carrying::Side;
 use libc::STDOUT_FILENO;
 
 // Writes `NUMBER LENGTH RUNS OUTPUT`, and says whether it could be written.
@@ -13,6 +16,49 @@ pub fn write_answer(text: &mut [u8], answer: link::Answer, output: &[u8]) -> boo
     let at = put_field(text, at, link::runs(answer) as u64);
     let at = put_hex(text, at, output);
     write_line(text, at)
+}
+
+// Writes `NUMBER SIDE LENGTH RUNS OUTPUT WORK`, and says whether it could be written.
+pub fn write_carried(text: &mut [u8], carried: Carried, output: &[u8], work: &[u8]) -> bool
+    requires { ⌜ 2 * length (now output) + 86 ≤ length (now text) ⌝ }
+    requires { ⌜ 2 * length (now work) + 2 ≤ length (now text) ⌝ }
+{
+    let at = put_carried(text, carried);
+    let at = put_hex(text, at, output);
+    let at = put(text, at, b" ");
+    if !io::write_all(STDOUT_FILENO, &text[0..at]) {
+        return false;
+    }
+    write_work(text, work)
+}
+
+// The rest of that line.
+fn write_work(text: &mut [u8], work: &[u8]) -> bool
+    requires { ⌜ 2 * length (now work) + 2 ≤ length (now text) ⌝ }
+{
+    let at = put_hex(text, 0, work);
+    write_line(text, at)
+}
+
+// Puts its numbers at the start of the text, and answers where they end.
+fn put_carried(text: &mut [u8], carried: Carried) -> usize
+    requires { ⌜ 84 ≤ length (now text) ⌝ }
+    ensures { λ r. ⌜ r ≤ 84 ⌝ }
+{
+    let side = carried.side;
+    let answer = carried.answer;
+    let at = put_field(text, 0, link::number(answer) as u64);
+    let at = put_field(text, at, side_number(side));
+    let at = put_field(text, at, link::length(answer) as u64);
+    put_field(text, at, link::runs(answer) as u64)
+}
+
+fn side_number(side: Side) -> u64 {
+    match side {
+        Side::Neither => 0,
+        Side::Old => 1,
+        Side::New => 2,
+    }
 }
 
 // Writes `NUMBER RUNS ROUNDS WORDS ZERO`, and says whether it could be written.

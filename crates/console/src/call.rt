@@ -2,10 +2,11 @@
 ghost use mathlib.Core.Path.{_≡_};
 ghost use Prim.Native.Nat.{_+_, _*_, _≤_};
 ghost use lib.ListN.{length};
-ghost use Rattle.console.specs.Bounds.{Inside, Recorded, Sound, Begun, Fed, Enough};
+ghost use Rattle.console.specs.Bounds.{Inside, Recorded, Sound, Set, Carriable, Fed, Enough};
 use crate::answer;
 use crate::fields::Part;
 use crate::request::Beginning;
+use crate::request::Carrying;
 use crate::request::Feeding;
 use crate::request::Key;
 use crate::request::Record;
@@ -40,15 +41,32 @@ pub fn carry_out(line: &[u8], request: Request, output: &mut [u8], text: &mut [u
     answer::write_answer(text, answer, buffer)
 }
 
+// Carries a record over and writes the answer, and says whether that could be written.
+pub fn carry(line: &[u8], request: Carrying, output: &mut [u8], text: &mut [u8]) -> bool
+    requires { ⌜ Carriable (length (now line)) request ⌝ }
+    requires { ⌜ Enough (length (now output)) (length (now text)) ⌝ }
+{
+    let mut lent = io::large_buffer();
+    let room = request.room;
+    let work_room = request.work;
+    let buffer = &mut output[0..room];
+    let work = &mut lent[0..work_room];
+    fill(buffer);
+    fill(work);
+    let carried = call_carry(line, request, buffer, work);
+    answer::write_carried(text, carried, buffer, work)
+}
+
 // Begins a sealing, whose sealer takes the place of the one before it.
 pub fn begin(line: &[u8], request: Beginning, text: &mut [u8]) -> Replied
-    requires { ⌜ Begun (length (now line)) request ⌝ }
+    requires { ⌜ Set (length (now line)) (request .settings) ⌝ }
     requires { ⌜ 65 ≤ length (now text) ⌝ }
 {
-    let key = bytes_of(line, request.key);
-    let nonce = bytes_of(line, request.nonce);
-    let data = bytes_of(line, request.data);
-    let step = sealer::begin(request.form, key, nonce, data, request.tag);
+    let settings = request.settings;
+    let key = bytes_of(line, settings.key);
+    let nonce = bytes_of(line, settings.nonce);
+    let data = bytes_of(line, settings.data);
+    let step = sealer::begin(settings.form, key, nonce, data, request.tag);
     write_step(text, step, b"")
 }
 
@@ -129,6 +147,33 @@ fn call(line: &[u8], request: Request, buffer: &mut [u8]) -> link::Answer
             }
         }
     }
+}
+
+fn call_carry(
+    line: &[u8],
+    request: Carrying,
+    buffer: &mut [u8],
+    work: &mut [u8],
+) -> carrying::Carried
+    requires { ⌜ Carriable (length (now line)) request ⌝ }
+{
+    let old = request.old;
+    let new = request.new;
+    carrying::carry(
+        request.edition,
+        old.form,
+        bytes_of(line, old.key),
+        bytes_of(line, old.nonce),
+        bytes_of(line, old.data),
+        request.tag,
+        bytes_of(line, request.sealed),
+        new.form,
+        bytes_of(line, new.key),
+        bytes_of(line, new.nonce),
+        bytes_of(line, new.data),
+        buffer,
+        work,
+    )
 }
 
 // The prepared key itself, out of its line.

@@ -8,19 +8,24 @@
 //     begin FORM KEY NONCE DATA TAG
 //     feed PART ROOM
 //     end ROOM
+//     carry EDITION FORM KEY NONCE DATA TAG RECORD FORM2 KEY2 NONCE2 DATA2 ROOM WORKROOM
 //
-// One space stands between two fields. EDITION, FORM, ROUNDS, TAG and ROOM are decimal, up to 65535, and ROOM up to 20480; edition 1 is
-// v1, 3 is v3.1; form 0 is the parallel one, 1 the serial one, which edition 3 alone has. The other fields are hexadecimal, two digits
-// of either case a byte, or `-` for no bytes. ROUNDS, WORDS and ZERO are a prepared key: its round count, the 240 bytes of its round
-// keys, and the 16 of E(zero).
+// One space stands between two fields. EDITION, FORM, ROUNDS, TAG and ROOM, and so FORM2 and WORKROOM, are decimal, up to 65535, and the
+// rooms up to 20480; edition 1 is v1, 3 is v3.1; form 0 is the parallel one, 1 the serial one, which edition 3 alone has. The other fields
+// are hexadecimal, two digits of either case a byte, or `-` for no bytes. ROUNDS, WORDS and ZERO are a prepared key: its round count, the
+// 240 bytes of its round keys, and the 16 of E(zero).
 //
 // A sealing or an opening has an output buffer of ROOM bytes, all a5 before the call, and its answer is the line
 // `NUMBER LENGTH RUNS OUTPUT`: RUNS says how many times the cipher ran, and OUTPUT is the whole buffer after the call, in hexadecimal.
 // The answer to `prepare` is `NUMBER RUNS ROUNDS WORDS ZERO`.
 //
-// The last three requests seal a message that comes in parts, in edition 3. The console keeps one sealer from line to line, which counts
+// `begin`, `feed` and `end` seal a message that comes in parts, in edition 3. The console keeps one sealer from line to line, which counts
 // as ended before the first `begin`: each `begin` replaces it by the one that it hands back, also where it is refused, and `feed` and
 // `end` go to it. No other line changes it. The three are answered as a sealing is; `begin` has no output buffer, and its OUTPUT is `-`.
+//
+// `carry` carries RECORD over to the other edition. It has a work buffer of WORKROOM bytes too, all a5 before the call, and its answer is
+// `NUMBER SIDE LENGTH RUNS OUTPUT WORK`: SIDE is 0 for neither, 1 for the old side and 2 for the new one, and WORK the whole work buffer
+// after the call.
 //
 // A line has up to 65000 bytes, and ends at LF, CR LF or the input's end. One that is empty or begins with `#` is passed over. Any
 // other line that is no request, and any longer line, is answered by `bad line N`, where N counts all lines from 1.
@@ -198,6 +203,7 @@ fn reply(
         Line::Bad => answer::write_bad_line(text, number),
         Line::Prepare(key) => answer::write_preparation(text, call::prepare(line, key)),
         Line::Request(request) => call::carry_out(line, request, output, text),
+        Line::Carry(request) => call::carry(line, request, output, text),
         Line::Begin(request) => return call::begin(line, request, text),
         Line::Feed(request) => return call::feed(line, request, sealer, output, text),
         Line::End(room) => return call::end(room, sealer, output, text),

@@ -1,7 +1,7 @@
 // What a line asks for.
 ghost use lib.ListN.{length};
 ghost use Rattle.digits.specs.Bounds.{AtMost};
-ghost use Rattle.console.specs.Bounds.{Held, Within, Started, Good};
+ghost use Rattle.console.specs.Bounds.{Inside, Held, Within, Started, Set, AllSet, Good};
 use crate::fields;
 use crate::fields::Field;
 use crate::fields::Part;
@@ -51,13 +51,31 @@ pub struct Request {
     pub room: usize,
 }
 
-// A request to begin a sealing whose message comes in parts.
-pub struct Beginning {
+// FORM, KEY, NONCE and DATA of a request under a raw key: the form, and where the strings lie in their line, as bytes.
+pub struct Settings {
     pub form: usize,
     pub key: Part,
     pub nonce: Part,
     pub data: Part,
+}
+
+// A request to begin a sealing whose message comes in parts.
+pub struct Beginning {
+    pub settings: Settings,
     pub tag: usize,
+}
+
+// A request to carry a record over.
+pub struct Carrying {
+    pub edition: usize,
+    pub old: Settings,
+    pub tag: usize,
+    // RECORD.
+    pub sealed: Part,
+    pub new: Settings,
+    pub room: usize,
+    // WORKROOM.
+    pub work: usize,
 }
 
 // A request to feed the sealer a part of its message.
@@ -72,11 +90,18 @@ enum Start {
     Bad,
 }
 
+// The settings, and where the next field begins.
+enum Four {
+    Fields(Settings, usize),
+    Bad,
+}
+
 pub enum Line {
     Request(Request),
     // A request to prepare a key.
     Prepare(Part),
     Begin(Beginning),
+    Carry(Carrying),
     Feed(Feeding),
     // A request to end the sealing, with ROOM.
     End(usize),
@@ -120,6 +145,9 @@ fn parse_rest(line: &mut [u8], from: usize) -> Line
     }
     if begins(line, b"begin ") {
         return parse_begin(line, from);
+    }
+    if begins(line, b"carry ") {
+        return parse_carry(line, from);
     }
     if begins(line, b"feed ") {
         return parse_feed(line, from);
@@ -174,10 +202,7 @@ fn parse_raw(line: &mut [u8], from: usize, opens: bool) -> Line
 fn parse_begin(line: &mut [u8], from: usize) -> Line
     ensures { λ r. ⌜ Good (length (now (line .exit))) r ⌝ }
 {
-    let Start::Under(form, key, next) = parse_start(line, from) else {
-        return Line::Bad;
-    };
-    let Two::Bytes(nonce, data, next) = fields::pair(line, next) else {
+    let Four::Fields(settings, next) = parse_four(line, from) else {
         return Line::Bad;
     };
     let Field::Number(tag, next) = fields::number(line, next) else {
@@ -186,13 +211,81 @@ fn parse_begin(line: &mut [u8], from: usize) -> Line
     if goes_on(line, next) {
         return Line::Bad;
     }
-    Line::Begin(Beginning {
+    Line::Begin(Beginning { settings, tag })
+}
+
+// The fields of a request to carry a record over.
+fn parse_carry(line: &mut [u8], from: usize) -> Line
+    ensures { λ r. ⌜ Good (length (now (line .exit))) r ⌝ }
+{
+    let Field::Number(edition, next) = fields::number(line, from) else {
+        return Line::Bad;
+    };
+    let Four::Fields(old, next) = parse_four(line, next) else {
+        return Line::Bad;
+    };
+    let Field::Number(tag, next) = fields::number(line, next) else {
+        return Line::Bad;
+    };
+    let Field::Bytes(sealed, next) = fields::bytes(line, next) else {
+        return Line::Bad;
+    };
+    let Four::Fields(new, next) = parse_four(line, next) else {
+        return Line::Bad;
+    };
+    parse_rooms(line, next, edition, old, tag, sealed, new)
+}
+
+// ROOM and WORKROOM, the last fields of a request to carry a record over, and with them the request.
+fn parse_rooms(
+    line: &[u8],
+    from: usize,
+    edition: usize,
+    old: Settings,
+    tag: usize,
+    sealed: Part,
+    new: Settings,
+) -> Line
+    requires { ⌜ Set (length (now line)) old × (Inside (length (now line)) sealed × Set (length (now line)) new) ⌝ }
+    ensures { λ r. ⌜ Good (length (now (line .entry))) r ⌝ }
+{
+    let Field::Number(room, next) = fields::number(line, from) else {
+        return Line::Bad;
+    };
+    if MOST_ROOM < room {
+        return Line::Bad;
+    }
+    let Parsed::Value(work) = parse_room(line, next) else {
+        return Line::Bad;
+    };
+    Line::Carry(Carrying {
+        edition,
+        old,
+        tag,
+        sealed,
+        new,
+        room,
+        work,
+    })
+}
+
+// FORM, KEY, NONCE and DATA, one behind the other.
+fn parse_four(line: &mut [u8], from: usize) -> Four
+    ensures { λ r. ⌜ AllSet (length (now (line .entry))) r ⌝ }
+{
+    let Start::Under(form, key, next) = parse_start(line, from) else {
+        return Four::Bad;
+    };
+    let Two::Bytes(nonce, data, next) = fields::pair(line, next) else {
+        return Four::Bad;
+    };
+    let settings = Settings {
         form,
         key,
         nonce,
         data,
-        tag,
-    })
+    };
+    Four::Fields(settings, next)
 }
 
 // FORM and KEY, which a request under a raw key has side by side, whether or not it names an edition before them.
@@ -313,7 +406,7 @@ fn parse_end(line: &[u8], from: usize) -> Line
     }
 }
 
-// ROOM, the last field of a request that has an output buffer, from `from` to the line's end.
+// The room of a buffer, which is the last field of its request, from `from` to the line's end.
 fn parse_room(line: &[u8], from: usize) -> Parsed
     ensures { λ r. ⌜ AtMost 20480 r ⌝ }
 {
