@@ -21,6 +21,9 @@ pub record Settings : Type 0 where
   pub nonce : List ℕ
   pub ad : List ℕ
 
+abbrev pub settings : ℕ → List ℕ → List ℕ → List ℕ → Settings
+settings form key nonce ad = record { form = form; key = key; nonce = nonce; ad = ad }
+
 -- 3 for 1, and 1 for 3. No other number names an edition: check 10 refuses it, and no promise uses what stands here for it
 abbrev pub other : ℕ → ℕ
 other zero = 1

@@ -2,7 +2,7 @@
 // the new side. The caller lends the work buffer that the message passes through, and has it back cleared. The call asks nothing of its
 // caller; what it promises is in specs/Promises.antt.
 ghost use mathlib.Core.Path.{_≡_};
-ghost use Rattle.carrying.specs.Checks.{passed, carryCheck};
+ghost use Rattle.carrying.specs.Checks.{settings, passed, carryCheck};
 ghost use Rattle.carrying.specs.Promises.{CarriesBy, Carries};
 use link::Answer;
 
@@ -36,7 +36,7 @@ pub fn carry(
     out: &mut [u8],
     work: &mut [u8],
 ) -> Carried
-    ensures { λ r. ⌜ Carries edition (record { form = form; key = now (key .entry); nonce = now (nonce .entry); ad = now (ad .entry) }) tag (now (sealed .entry)) (record { form = form2; key = now (key2 .entry); nonce = now (nonce2 .entry); ad = now (ad2 .entry) }) (now (out .entry)) (now (work .entry)) r (now (out .exit)) (now (work .exit)) ⌝ }
+    ensures { λ r. ⌜ Carries edition (settings form (now (key .entry)) (now (nonce .entry)) (now (ad .entry))) tag (now (sealed .entry)) (settings form2 (now (key2 .entry)) (now (nonce2 .entry)) (now (ad2 .entry))) (now (out .entry)) (now (work .entry)) r (now (out .exit)) (now (work .exit)) ⌝ }
 {
     let checked = check::carry_check(
         edition,
@@ -90,8 +90,8 @@ fn carry_over(
     out: &mut [u8],
     work: &mut [u8],
 ) -> Carried
-    requires { ⌜ carryCheck edition (record { form = form; key = now key; nonce = now nonce; ad = now ad }) tag (now sealed) (record { form = form2; key = now key2; nonce = now nonce2; ad = now ad2 }) (now out) (now work) ≡ passed ⌝ }
-    ensures { λ r. ⌜ CarriesBy edition (record { form = form; key = now (key .entry); nonce = now (nonce .entry); ad = now (ad .entry) }) tag (now (sealed .entry)) (record { form = form2; key = now (key2 .entry); nonce = now (nonce2 .entry); ad = now (ad2 .entry) }) (now (out .entry)) (now (work .entry)) r (now (out .exit)) (now (work .exit)) passed ⌝ }
+    requires { ⌜ carryCheck edition (settings form (now key) (now nonce) (now ad)) tag (now sealed) (settings form2 (now key2) (now nonce2) (now ad2)) (now out) (now work) ≡ passed ⌝ }
+    ensures { λ r. ⌜ CarriesBy edition (settings form (now (key .entry)) (now (nonce .entry)) (now (ad .entry))) tag (now (sealed .entry)) (settings form2 (now (key2 .entry)) (now (nonce2 .entry)) (now (ad2 .entry))) (now (out .entry)) (now (work .entry)) r (now (out .exit)) (now (work .exit)) passed ⌝ }
 {
     let opened = link::open(edition, form, key, nonce, ad, sealed, tag, work);
     let Answer::Done { length, runs } = opened else {

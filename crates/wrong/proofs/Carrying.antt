@@ -22,7 +22,7 @@ use Rattle.mode.specs.Undoing.{unbody}
 use Rattle.mode.proofs.Otr.{otr-undone, otr-length-body}
 use Rattle.link.specs.Answers.{numberOf}
 use Rattle.link.proofs.Entries.{aes-cipher, aes-ta}
-use Rattle.carrying.specs.Checks.{Settings, other}
+use Rattle.carrying.specs.Checks.{Settings, settings, other}
 use Rattle.carrying.specs.Promises.{sealingOn, Carries}
 use Rattle.carrying.specs.declared.Carried.{Carried}
 use Rattle.carrying.specs.declared.Side.{Side}
@@ -39,7 +39,7 @@ abbrev pub key1 : List ℕ
 key1 = bytes 16 1
 
 abbrev pub side : ℕ → List ℕ → Settings
-side form k = record { form = form; key = k; nonce = nonce; ad = [] }
+side form k = settings form k nonce []
 
 keys-apart : key1 ≡ key → ⊥
 keys-apart e = let z : _≡_ {A = ℕ} 1 0 = ap (λ (l : List ℕ). getD l 15 0) e in omega arith

@@ -1,6 +1,6 @@
 -- `carrying::carry` meets its promise: the checks, and once they have passed what `carry_over` promises. Assumes nothing.
 use mathlib.Core.Path.{_≡_, sym, _∙_}
-use Rattle.carrying.specs.Checks.{Settings, passed, carryCheck, asCarried}
+use Rattle.carrying.specs.Checks.{Settings, settings, passed, carryCheck, asCarried}
 use Rattle.carrying.proofs.SealedAnew.{carry-refused, come-to, carry-passed}
 use borrow.Author.Needs.{needs}
 use Rattle.carrying.proofs.carry.Statement.{statement}
@@ -11,14 +11,10 @@ start-of c = c .before .before .before .before .before .before .before .before .
 
 -- the two sides
 abbrev old : tie.Start → Settings
-old c =
-    let v = c .args in
-    record { form = v .form; key = v .key .now; nonce = v .nonce .now; ad = v .ad .now }
+old c = settings (c .args .form) (c .args .key .now) (c .args .nonce .now) (c .args .ad .now)
 
 abbrev new : tie.Start → Settings
-new c =
-    let v = c .args in
-    record { form = v .form2; key = v .key2 .now; nonce = v .nonce2 .now; ad = v .ad2 .now }
+new c = settings (c .args .form2) (c .args .key2 .now) (c .args .nonce2 .now) (c .args .ad2 .now)
 
 answer-is : (c : tie.After-carry-check)
     → c .carry-check .result

@@ -8,7 +8,7 @@ use lib.Seq.{length-take-le}
 use types.Run.{miss}
 use Rattle.link.specs.Promises.{Seals}
 use Rattle.link.specs.declared.answer.Answer.the-variants.{Done}
-use Rattle.carrying.specs.Checks.{Settings, other, passed}
+use Rattle.carrying.specs.Checks.{Settings, settings, other, passed}
 use Rattle.carrying.specs.Promises.{CarriesBy}
 use Rattle.carrying.specs.declared.Side.the-variants.{Neither}
 use Rattle.carrying.proofs.Verdicts.{Fits}
@@ -22,14 +22,10 @@ start-of c = c .before .before .before .before .before .before .before .before .
 
 -- the two sides
 abbrev old : tie.Start → Settings
-old c =
-    let v = c .args in
-    record { form = v .form; key = v .key .now; nonce = v .nonce .now; ad = v .ad .now }
+old c = settings (c .args .form) (c .args .key .now) (c .args .nonce .now) (c .args .ad .now)
 
 abbrev new : tie.Start → Settings
-new c =
-    let v = c .args in
-    record { form = v .form2; key = v .key2 .now; nonce = v .nonce2 .now; ad = v .ad2 .now }
+new c = settings (c .args .form2) (c .args .key2 .now) (c .args .nonce2 .now) (c .args .ad2 .now)
 
 -- what the checks made sure of
 fits : (c : tie.Start) → Fits (c .args .edition) (old c) (c .args .tag) (length (c .args .sealed .now)) (new c) (length (c .args .out .now)) (length (c .args .work .now))
