@@ -1,5 +1,5 @@
 -- `carrying::carry_over` meets its contract: what the opening found is sealed anew, and the work buffer cleared. Assumes nothing.
-use mathlib.Core.Path.{_≡_, sym, subst, _∙_}
+use mathlib.Core.Path.{sym, subst}
 use mathlib.Core.List.{List, [], _∷_}
 use Prim.Native.Nat.{ℕ, _+_, _≤_}
 use native.Mathlib.Omega.{arith}
