@@ -1,5 +1,5 @@
--- Document 02, wish 8: where carrying over answers 0, carrying back with the sides exchanged and enough room answers 0 and returns the first
--- record exactly. Assumes nothing.
+-- Document 02, wish 8: where carrying over answers 0, carrying back with the sides exchanged and enough room answers 0 and returns the
+-- first record exactly. Assumes nothing.
 use mathlib.Core.Path.{_≡_, sym, ap, subst, _∙_}
 use mathlib.Core.Bool.{true, false}
 use mathlib.Core.Logic.{_⊎_, inl, inr}
@@ -35,8 +35,8 @@ twice edition h = go (either (eqb edition 1) (eqb edition 3) h)
     go (inl e) = let is = eqb-true edition 1 e in ap (λ (x : ℕ). other (other x)) is ∙ sym is
     go (inr e) = let is = eqb-true edition 3 e in ap (λ (x : ℕ). other (other x)) is ∙ sym is
 
--- what carrying back comes to, from the buffers out and work: done on neither side, with the record s in front of the output, and zeros over
--- its message's length in the work buffer
+-- what carrying back comes to, from the buffers out and work: done on neither side, with the record s in front of the output, and zeros
+-- over its message's length in the work buffer
 pub record Returned (t : ℕ) (s out work : List ℕ) (r : Carried) (after cleared : List ℕ) : Type 0 where
   pub neither : r .side ≡ Neither
   pub done : numberOf (r .answer) ≡ 0

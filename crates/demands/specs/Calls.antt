@@ -17,7 +17,7 @@ firstOf none [] = none
 firstOf none ((a, true) ∷ checks) = firstOf none checks
 firstOf none ((a, false) ∷ checks) = a
 
--- by their numbers
+-- the number of the first that fails, and 0 where none does
 abbrev pub firstFailing : List (ℕ × Bool) → ℕ
 firstFailing checks = firstOf 0 checks
 

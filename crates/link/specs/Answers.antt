@@ -1,4 +1,5 @@
--- Document 01, 'What comes back', and document 02, wishes 1, 3, 6, 7 and 8: the number, the length and the runs of the cipher of each answer.
+-- Document 01, 'What comes back', and document 02, wishes 1, 3, 6, 7 and 8: the number, the length and the runs of the cipher of each
+-- answer.
 use mathlib.Core.List.{[], _∷_}
 use Prim.Native.Nat.{ℕ}
 use lib.ListN.{getD}
