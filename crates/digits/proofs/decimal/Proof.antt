@@ -6,18 +6,18 @@ use borrow.Author.Rules.{rules}
 use Rattle.digits.proofs.decimal.Statement.{statement}
 use Rattle.digits.proofs.decimal.Tie as tie
 
-abbrev invariant-loop : tie.invariant-loop
+abbrev invariant-loop : tie.invariant-loop-i
 invariant-loop digits value₀ i₀ value i = value ≤ 65535
 
-abbrev decreases-loop : tie.decreases-loop
+abbrev decreases-loop : tie.decreases-loop-i
 decreases-loop digits value₀ i₀ value i = length digits - i
 
 cast-value : tie.Need-overflow-cast-value invariant-loop decreases-loop
-cast-value c = omega (arith, c.before.before.shared-slice-known.given c.before.before.before.before.loop.i)
+cast-value c = omega (arith, c.before.before.shared-slice-known.given c.before.before.before.before.loop-i.i)
 
 add-value : tie.Need-overflow-add-value invariant-loop decreases-loop
-add-value c = omega (arith, c.before.before.shared-slice-known.given c.before.before.before.before.loop.i)
+add-value c = omega (arith, c.before.before.shared-slice-known.given c.before.before.before.before.loop-i.i)
 
-pub decimal-spec : {M : Type 1} → statement M
-decimal-spec =
+pub decimal_spec : {M : Type 1} → statement M
+decimal_spec =
     tie.close (tie.spec invariant-loop decreases-loop (λ c. search rules) (λ c. search rules) (λ c. search rules) (λ c. search rules) (λ c. search rules) cast-value add-value (λ c. search rules) (λ c. search rules) (λ c. search rules) (λ c. search rules) (λ c. search rules))

@@ -11,5 +11,5 @@ returns : tie.Need-returns
 unfolding sbox table_from substitute affine inverse product
 returns c = refl
 
-pub sbox-spec : {M : Type 1} → statement M
-sbox-spec = tie.close (tie.spec returns)
+pub sbox_spec : {M : Type 1} → statement M
+sbox_spec = tie.close (tie.spec returns)

@@ -12,5 +12,5 @@ returns : tie.Need-returns
 unfolding sbox
 returns c = at substitute 256 c.before.args.table.now c.before.requires c.before.args.b (search rules)
 
-pub substitute-byte-spec : {M : Type 1} → statement M
-substitute-byte-spec = tie.close (tie.spec element-copy-out-result returns)
+pub substitute_byte_spec : {M : Type 1} → statement M
+substitute_byte_spec = tie.close (tie.spec element-copy-out-result returns)

@@ -13,5 +13,5 @@ twice-requires c κs = search rules
 returns : tie.Need-returns
 returns c = ap (λ (x : ℕ). bit_xor x c.before.args.b) c.twice.ensures ∙ thrice_is c.before.args.b (search rules)
 
-pub thrice-spec : {M : Type 1} → statement M
-thrice-spec = tie.close (tie.spec twice-requires returns)
+pub thrice_spec : {M : Type 1} → statement M
+thrice_spec = tie.close (tie.spec twice-requires returns)

@@ -13,30 +13,30 @@ use borrow.Author.Rules.{rules}
 use Rattle.lists.proofs.equal.Statement.{statement}
 use Rattle.lists.proofs.equal.Tie as tie
 
-abbrev invariant-loop : tie.invariant-loop
+abbrev invariant-loop : tie.invariant-loop-j
 invariant-loop a b differs₀ j₀ differs j = (j ≤ length a) × ((differs ≡ 0 → take j a ≡ take j b) × (take j a ≡ take j b → differs ≡ 0))
 
-abbrev decreases-loop : tie.decreases-loop
+abbrev decreases-loop : tie.decreases-loop-j
 decreases-loop a b differs₀ j₀ differs j = length a - j
 
-returns : tie.Need-returns invariant-loop decreases-loop
+returns : tie.Need-returns-then-a-b invariant-loop decreases-loop
 returns c =
     let v = c.before.args in
-    sym (not_same v.a.now v.b.now (λ e. c.if1.true (ap length e)))
+    sym (not_same v.a.now v.b.now (λ e. c.if-a-b.true (ap length e)))
 
-loop-holds : tie.Need-loop-init invariant-loop decreases-loop
+loop-holds : tie.Need-loop-j-init invariant-loop decreases-loop
 loop-holds c = (search rules, (λ h. refl, λ h. refl))
 
-loop-again : tie.Need-loop-preserved invariant-loop decreases-loop
+loop-again : tie.Need-loop-j-preserved invariant-loop decreases-loop
 loop-again c =
     let at-loop = c.before.before.before in
     let v = at-loop.before.before.args in
-    let h = at-loop.loop in
+    let h = at-loop.loop-j in
     let a = v.a.now in
     let b = v.b.now in
     let x = bit_xor (get_or a h.j 0) (get_or b h.j 0) in
     let in_a : h.j < length a = search rules in
-    let in_b : h.j < length b = omega (arith, at-loop.before.if1.false) in (
+    let in_b : h.j < length b = omega (arith, at-loop.before.if-a-b.false) in (
       search rules,
       (
         λ z.
@@ -48,20 +48,20 @@ loop-again c =
       ),
     )
 
-returns-2 : tie.Need-returns-2 invariant-loop decreases-loop
+returns-2 : tie.Need-returns invariant-loop decreases-loop
 returns-2 c =
     let at-loop = c.before in
     let v = at-loop.before.before.args in
-    let h = at-loop.loop in
+    let h = at-loop.loop-j in
     let a = v.a.now in
     let b = v.b.now in
     let all-a : take h.j a ≡ a = take_all h.j a (omega arith) in
-    let all-b : take h.j b ≡ b = take_all h.j b (omega (arith, at-loop.before.if1.false)) in
+    let all-b : take h.j b ≡ b = take_all h.j b (omega (arith, at-loop.before.if-a-b.false)) in
     same_is (eqb h.differs 0) a b
     (λ z. sym all-a ∙ h.invariant.1.0 (eqb-true h.differs 0 z) ∙ all-b)
     (λ e. eq-eqb h.differs 0 (h.invariant.1.1 (all-a ∙ e ∙ sym all-b)))
 
-pub equal-spec : {M : Type 1} → statement M
-equal-spec =
+pub equal_spec : {M : Type 1} → statement M
+equal_spec =
     tie.close
     (tie.spec invariant-loop decreases-loop returns loop-holds (λ c. search rules) (λ c. search rules) (λ c. search rules) (λ c. search rules) loop-again returns-2)

@@ -19,7 +19,7 @@ add-result-2 c =
     let j = c.before.before.args.j in
     omega (arith, c.shared-slice-known2.given (3 * j), c.shared-slice-known2.given (3 * j + 1))
 
-pub pair-at-spec : {M : Type 1} → statement M
-pair-at-spec =
+pub pair_at_spec : {M : Type 1} → statement M
+pair_at_spec =
     tie.close
     (tie.spec (λ c. search rules) (λ c. search rules) cast-result mul-result-2 (λ c. search rules) (λ c. search rules) (λ c. search rules) cast-result-2 add-result-2 (λ c. search rules))

@@ -12,22 +12,22 @@ use Rattle.plans.proofs.Planned.{entry_of, plan_of_more, length-plan_of}
 use Rattle.plans.proofs.put_plan.Statement.{statement}
 use Rattle.plans.proofs.put_plan.Tie as tie
 
-abbrev invariant-loop : tie.invariant-loop
+abbrev invariant-loop : tie.invariant-loop-i
 invariant-loop n out₀ i₀ out i = (i ≤ n) × (out ≡ lay 0 (plan_of i) out₀) × (length out ≡ length out₀)
 
-abbrev decreases-loop : tie.decreases-loop
+abbrev decreases-loop : tie.decreases-loop-i
 decreases-loop n out₀ i₀ out i = n - i
 
-loop-holds : tie.Need-loop-init invariant-loop decreases-loop
+loop-holds : tie.Need-loop-i-init invariant-loop decreases-loop
 unfolding plan_of
-loop-holds c = (search rules, sym (lay_none 0 c.before.args.out.now), refl)
+loop-holds c = (search rules, sym (lay_none 0 c.before.args.out-1.now), refl)
 
-loop-again : tie.Need-loop-preserved invariant-loop decreases-loop
+loop-again : tie.Need-loop-i-preserved invariant-loop decreases-loop
 loop-again c =
     let at-lay = c.before.before in
     let at-loop = at-lay.before.before.before.before in
-    let out = at-loop.before.before.args.out.now in
-    let h = at-loop.loop in
+    let out = at-loop.before.before.args.out-1.now in
+    let h = at-loop.loop-i in
     let i = h.i in
     let place : 3 * i ≡ 0 + length (plan_of i) = omega (arith, length-plan_of i) in (
       search rules,
@@ -42,11 +42,11 @@ loop-again c =
 returns : tie.Need-returns invariant-loop decreases-loop
 returns c =
     let v = c.before.before.before.args in
-    let h = c.before.loop in
+    let h = c.before.loop-i in
     let all : h.i ≡ v.n = search rules in
-    h.invariant.1 ∙ ap (λ (k : ℕ). lay 0 (plan_of k) v.out.now) all
+    h.invariant.1 ∙ ap (λ (k : ℕ). lay 0 (plan_of k) v.out-1.now) all
 
-pub put-plan-spec : {M : Type 1} → statement M
-put-plan-spec =
+pub put_plan_spec : {M : Type 1} → statement M
+put_plan_spec =
     tie.close
     (tie.spec invariant-loop decreases-loop loop-holds (λ c. search rules) (λ c. search rules) (λ c. search rules) (λ c. search rules) (λ c. search rules) (λ c κs. search rules) (λ c. search rules) (λ c. search rules) loop-again (λ c. search rules) returns)

@@ -17,5 +17,5 @@ returns c =
     let high_is : x / 4294967296 ≡ v.high = omega arith in
     little_halves x ∙ ap₂ (λ (p q : ℕ). little 4 p ++ little 4 q) low-is high_is
 
-pub join-spec : {M : Type 1} → statement M
-join-spec = tie.close (tie.spec (λ c. search rules) (λ c. search rules) returns)
+pub join_spec : {M : Type 1} → statement M
+join_spec = tie.close (tie.spec (λ c. search rules) (λ c. search rules) returns)

@@ -13,6 +13,6 @@ returns c =
     let v = c.args in
     ap (little 4) (omega arith) ∙ little_number v.a v.b v.c v.d (search rules) (search rules) (search rules) (search rules)
 
-pub pack-spec : {M : Type 1} → statement M
-pack-spec =
+pub pack_spec : {M : Type 1} → statement M
+pack_spec =
     tie.close (tie.spec (λ c. search rules) (λ c. search rules) (λ c. search rules) (λ c. search rules) (λ c. search rules) (λ c. search rules) returns)

@@ -6,7 +6,7 @@ use Rattle.words.proofs.pack_eight.Statement.{statement}
 use Rattle.words.proofs.pack_eight.Tie as tie
 
 returns : tie.Need-returns
-returns c = c.join.ensures ∙ ap₂ ◌++◌ c.before.before.pack.ensures c.before.pack2.ensures
+returns c = c.join.ensures ∙ ap₂ ◌++◌ c.before.before.pack.ensures c.before.pack-2.ensures
 
-pub pack-eight-spec : {M : Type 1} → statement M
-pack-eight-spec = tie.close (tie.spec (λ c κs. search rules) (λ c κs. search rules) (λ c κs. search rules) returns)
+pub pack_eight_spec : {M : Type 1} → statement M
+pack_eight_spec = tie.close (tie.spec (λ c κs. search rules) (λ c κs. search rules) (λ c κs. search rules) returns)

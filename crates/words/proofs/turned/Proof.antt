@@ -28,6 +28,6 @@ returns c =
     let bytes-are : little 8 r ≡ back (little 8 x) = c.pack-eight.ensures ∙ ap back c.before.unpack-eight.ensures in
     (big-back r ∙ ap back bytes-are ∙ back-back x, bytes-are ∙ sym (big-back x))
 
-pub turned-spec : {M : Type 1} → statement M
-turned-spec =
+pub turned_spec : {M : Type 1} → statement M
+turned_spec =
     tie.close (tie.spec (λ c κs. search rules) (λ c. search rules) (λ c. search rules) (λ c. search rules) (λ c. search rules) (λ c. search rules) (λ c. search rules) (λ c. search rules) (λ c. search rules) (λ c κs. search rules) returns)

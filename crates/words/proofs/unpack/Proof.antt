@@ -10,6 +10,6 @@ returns : tie.Need-returns
 unfolding little
 returns c = four (omega arith) (omega arith) (omega arith) (omega arith)
 
-pub unpack-spec : {M : Type 1} → statement M
-unpack-spec =
+pub unpack_spec : {M : Type 1} → statement M
+unpack_spec =
     tie.close (tie.spec (λ c. search rules) (λ c. search rules) (λ c. search rules) (λ c. search rules) returns)

@@ -13,6 +13,6 @@ unfolding little
 returns c =
     ap₂ ◌++◌ (four (omega arith) (omega arith) (omega arith) (omega arith)) (four (omega arith) (omega arith) (omega arith) (omega arith))
 
-pub unpack-eight-spec : {M : Type 1} → statement M
-unpack-eight-spec =
+pub unpack_eight_spec : {M : Type 1} → statement M
+unpack_eight_spec =
     tie.close (tie.spec (λ c. search rules) (λ c. search rules) (λ c. search rules) (λ c. search rules) (λ c. search rules) (λ c. search rules) (λ c. search rules) (λ c. search rules) returns)
