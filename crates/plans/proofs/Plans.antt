@@ -52,10 +52,10 @@ pub rearranged : (n : ℕ) (p q : List ℕ) → Accepted n p → Rearranged p q 
 rearranged n p q a r = record {
   whole = omega (arith, a.whole, r.long);
   every = once;
-  no_other = λ j h. subst (λ (i : ℕ). i < n) (sym (r.pairs j (in_p j h))) (a.no_other (r.from j) (r.from-within j (in_p j h)));
+  no_other = λ j h. subst (λ (i : ℕ). i < n) (sym (r.pairs j (in_p j h))) (a.no_other (r.from j) (r.from_within j (in_p j h)));
   engines = λ j h.
       subst (λ (e : ℕ). e < 4) (sym (r.engines j (in_p j h)))
-      (r.names (engine_at p (r.from j)) (a.engines (r.from j) (r.from-within j (in_p j h))));
+      (r.names (engine_at p (r.from j)) (a.engines (r.from j) (r.from_within j (in_p j h))));
 }
   where
     in_p : (j : ℕ) → j < entries q → j < entries p
@@ -64,14 +64,14 @@ rearranged n p q a r = record {
     once : (i : ℕ) → i < n → Once q i
     once i h =
         let o = a.every i h in
-        let place = r.to-within o.entry o.within in
+        let place = r.to_within o.entry o.within in
         record {
           entry = r.to o.entry;
           within = omega (arith, place, r.long);
-          for_it = r.pairs (r.to o.entry) place ∙ ap (pair_at p) (r.from-to o.entry o.within) ∙ o.for_it;
+          for_it = r.pairs (r.to o.entry) place ∙ ap (pair_at p) (r.from_to o.entry o.within) ∙ o.for_it;
           alone = λ j b e.
-              sym (r.to-from j (in_p j b))
-              ∙ ap r.to (o.alone (r.from j) (r.from-within j (in_p j b)) (sym (r.pairs j (in_p j b)) ∙ e));
+              sym (r.to_from j (in_p j b))
+              ∙ ap r.to (o.alone (r.from j) (r.from_within j (in_p j b)) (sym (r.pairs j (in_p j b)) ∙ e));
         }
 
 -- a plan is judged one way

@@ -11,15 +11,15 @@ use Rattle.block.proofs.Doubling.{double_low, double_high}
 use Rattle.block.proofs.double.Statement.{statement}
 use Rattle.block.proofs.double.Tie as tie
 
-returns : tie.Need-returns
+returns : tie.Need-returns-then-x-ge128
 returns c =
-    let x = c.before.before.args.t1 in
+    let x = c.before.before.args.x in
     let long : length x ≡ 16 = search rules in
     let byte : Fits w8 (get_or x 0 0) = search rules in
-    ap (λ (l : List ℕ). set l 15 (bit_xor (get_or l 15 0) 0x87)) c.before.shift.ensures ∙ sym (double_high x long c.if1.true byte.fits)
+    ap (λ (l : List ℕ). set l 15 (bit_xor (get_or l 15 0) 0x87)) c.before.shift-d.ensures ∙ sym (double_high x long c.if-x-ge128.true byte.fits)
 
-returns-2 : tie.Need-returns-2
-returns-2 c = c.before.shift.ensures ∙ sym (double_low c.before.before.args.t1 c.if1.false)
+returns-2 : tie.Need-returns-else-x-ge128
+returns-2 c = c.before.shift-d.ensures ∙ sym (double_low c.before.before.args.x c.if-x-ge128.false)
 
-pub double-spec : {M : Type 1} → statement M
-double-spec = tie.close (tie.spec (λ c κs. search rules) (λ c. search rules) (λ c. search rules) (λ c. search rules) returns returns-2)
+pub double_spec : {M : Type 1} → statement M
+double_spec = tie.close (tie.spec (λ c κs. search rules) (λ c. search rules) (λ c. search rules) (λ c. search rules) returns returns-2)

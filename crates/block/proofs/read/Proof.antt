@@ -13,8 +13,8 @@ returns c =
     let v = c.before.before.before.before.before.before.args in
     let whole : v.at + v.n - v.at ≡ v.n = omega arith in
     c.before.lay.ensures
-    ∙ ap (λ (k : ℕ). lay 0 (take k (drop v.at v.s.now)) c.before.before.before.before.zeros.result) whole
-    ∙ ap (lay 0 (take v.n (drop v.at v.s.now))) c.before.before.before.before.zeros.ensures
+    ∙ ap (λ (k : ℕ). lay 0 (take k (drop v.at v.s.now)) c.before.before.before.before.zeros-b.result) whole
+    ∙ ap (lay 0 (take v.n (drop v.at v.s.now))) c.before.before.before.before.zeros-b.ensures
 
 pub read_spec : {M : Type 1} → statement M
 read_spec =

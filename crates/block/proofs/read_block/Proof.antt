@@ -14,5 +14,5 @@ returns c =
     let rest = drop v.at v.s.now in
     c.read.ensures ∙ filled_whole (take 16 rest) (length-take-le 16 rest (omega (arith, length-drop v.at v.s.now)))
 
-pub read-block-spec : {M : Type 1} → statement M
-read-block-spec = tie.close (tie.spec (λ c κs. search rules) returns)
+pub read_block_spec : {M : Type 1} → statement M
+read_block_spec = tie.close (tie.spec (λ c κs. search rules) returns)

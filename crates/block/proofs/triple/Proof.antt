@@ -6,5 +6,5 @@ use Rattle.block.proofs.triple.Tie as tie
 returns : tie.Need-returns
 returns c = cc
 
-pub triple-spec : {M : Type 1} → statement M
-triple-spec = tie.close (tie.spec (λ c κs. search rules) (λ c κs. search rules) returns)
+pub triple_spec : {M : Type 1} → statement M
+triple_spec = tie.close (tie.spec (λ c κs. search rules) (λ c κs. search rules) returns)

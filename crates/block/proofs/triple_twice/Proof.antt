@@ -6,5 +6,5 @@ use Rattle.block.proofs.triple_twice.Tie as tie
 returns : tie.Need-returns
 returns c = cc
 
-pub triple-twice-spec : {M : Type 1} → statement M
-triple-twice-spec = tie.close (tie.spec (λ c κs. search rules) (λ c κs. search rules) returns)
+pub triple_twice_spec : {M : Type 1} → statement M
+triple_twice_spec = tie.close (tie.spec (λ c κs. search rules) (λ c κs. search rules) returns)

@@ -13,20 +13,20 @@ use Rattle.lists.proofs.Xor.{length-xor, get_or-xor}
 use Rattle.block.proofs.xor.Statement.{statement}
 use Rattle.block.proofs.xor.Tie as tie
 
-abbrev invariant-loop : tie.invariant-loop
+abbrev invariant-loop : tie.invariant-loop-i
 invariant-loop a b c₀ i₀ c i = (i ≤ 16) × (c ≡ lay 0 (take i (xor a b)) a)
 
-abbrev decreases-loop : tie.decreases-loop
+abbrev decreases-loop : tie.decreases-loop-i
 decreases-loop a b c₀ i₀ c i = 16 - i
 
-loop-holds : tie.Need-loop-init invariant-loop decreases-loop
+loop-holds : tie.Need-loop-i-init invariant-loop decreases-loop
 loop-holds c = (search rules, refl)
 
-loop-again : tie.Need-loop-preserved invariant-loop decreases-loop
+loop-again : tie.Need-loop-i-preserved invariant-loop decreases-loop
 loop-again c =
-    let a = c.before.before.args.t1 in
-    let b = c.before.before.args.t2 in
-    let h = c.before.loop in
+    let a = c.before.before.args.a in
+    let b = c.before.before.args.b in
+    let h = c.before.loop-i in
     let al : length a ≡ 16 = search rules in
     let bl : length b ≡ 16 = search rules in (
       search rules,
@@ -37,13 +37,13 @@ loop-again c =
 
 returns : tie.Need-returns invariant-loop decreases-loop
 returns c =
-    let a = c.before.before.args.t1 in
-    let b = c.before.before.args.t2 in
+    let a = c.before.before.args.a in
+    let b = c.before.before.args.b in
     let al : length a ≡ 16 = search rules in
     let bl : length b ≡ 16 = search rules in
-    c.before.loop.invariant.1 ∙ front_all (xor a b) a c.before.loop.i (omega (arith, length-xor a b)) (omega (arith, length-xor a b))
+    c.before.loop-i.invariant.1 ∙ front_all (xor a b) a c.before.loop-i.i (omega (arith, length-xor a b)) (omega (arith, length-xor a b))
 
-pub xor-spec : {M : Type 1} → statement M
-xor-spec =
+pub xor_spec : {M : Type 1} → statement M
+xor_spec =
     tie.close
     (tie.spec invariant-loop decreases-loop loop-holds (λ c. search rules) (λ c. search rules) (λ c. search rules) (λ c. search rules) (λ c. search rules) loop-again returns)

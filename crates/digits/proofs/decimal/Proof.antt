@@ -12,11 +12,11 @@ invariant-loop digits value₀ i₀ value i = value ≤ 65535
 abbrev decreases-loop : tie.decreases-loop-i
 decreases-loop digits value₀ i₀ value i = length digits - i
 
-cast-value : tie.Need-overflow-cast-value invariant-loop decreases-loop
-cast-value c = omega (arith, c.before.before.shared-slice-known.given c.before.before.before.before.loop-i.i)
+cast-value : tie.Need-overflow_cast-value invariant-loop decreases-loop
+cast-value c = omega (arith, c.before.before.shared_slice_known-1.given c.before.before.before.before.loop-i.i)
 
-add-value : tie.Need-overflow-add-value invariant-loop decreases-loop
-add-value c = omega (arith, c.before.before.shared-slice-known.given c.before.before.before.before.loop-i.i)
+add-value : tie.Need-overflow_add-value invariant-loop decreases-loop
+add-value c = omega (arith, c.before.before.shared_slice_known-1.given c.before.before.before.before.loop-i.i)
 
 pub decimal_spec : {M : Type 1} → statement M
 decimal_spec =

@@ -5,7 +5,7 @@ use Rattle.field.specs.Substitution.{substitute, sbox}
 use Rattle.field.proofs.substitute_byte.Statement.{statement}
 use Rattle.field.proofs.substitute_byte.Tie as tie
 
-element-copy-out-result : tie.Need-element-copy-out-result
+element-copy-out-result : tie.Need-bounds-table-b
 element-copy-out-result c = search rules
 
 returns : tie.Need-returns

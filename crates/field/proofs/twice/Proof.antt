@@ -7,7 +7,7 @@ use Rattle.field.proofs.twice.Tie as tie
 returns : tie.Need-returns
 returns c = twice_is c.args.b (search rules)
 
-cast-result : tie.Need-overflow-cast-result
+cast-result : tie.Need-overflow_cast-result
 cast-result c = record { fits = twice_byte c.args.b (search rules) }
 
 pub twice_spec : {M : Type 1} → statement M

@@ -31,7 +31,7 @@ within c = omega arith
 returns-2 : tie.Need-returns-then-n-i invariant-loop decreases-loop
 returns-2 c =
     let at_pair = c.before in
-    too_large_refused _ _ _ (within at_pair.before) (omega (arith, at_pair.pair-at.ensures))
+    too_large_refused _ _ _ (within at_pair.before) (omega (arith, at_pair.pair_at-i.ensures))
 
 returns-3 : tie.Need-returns-then-plan-j-ge4 invariant-loop decreases-loop
 returns-3 c =
@@ -42,14 +42,14 @@ returns-3 c =
 returns-4 : tie.Need-returns-then-marks-i-ne0 invariant-loop decreases-loop
 returns-4 c = λ a.
     let at_pair = c.before.before.before.before in
-    let pair = at_pair.pair-at in
+    let pair = at_pair.pair_at-i in
     let h = at_pair.before.before.loop-j in
     c.if-marks-i-ne0.true (h.invariant.1.clear pair.result (λ k b e. twice_refused _ _ k h.j b (within at_pair.before) (e ∙ pair.ensures) a))
 
 loop-again : tie.Need-loop-j-preserved invariant-loop decreases-loop
 loop-again c =
     let at_pair = c.before.before.before.before in
-    let pair = at_pair.pair-at in
+    let pair = at_pair.pair_at-i in
     let h = at_pair.before.before.loop-j in (
       search rules,
       passed_more _ _ h.marks h.j pair.result (search rules) h.invariant.1 pair.ensures (search rules) (search rules) c.if-marks-i-ne0.false,

@@ -20,13 +20,13 @@ decreases-loop n out₀ i₀ out i = n - i
 
 loop-holds : tie.Need-loop-i-init invariant-loop decreases-loop
 unfolding plan_of
-loop-holds c = (search rules, sym (lay_none 0 c.before.args.out-1.now), refl)
+loop-holds c = (search rules, sym (lay_none 0 c.before.args.out.now), refl)
 
 loop-again : tie.Need-loop-i-preserved invariant-loop decreases-loop
 loop-again c =
     let at-lay = c.before.before in
     let at-loop = at-lay.before.before.before.before in
-    let out = at-loop.before.before.args.out-1.now in
+    let out = at-loop.before.before.args.out.now in
     let h = at-loop.loop-i in
     let i = h.i in
     let place : 3 * i ≡ 0 + length (plan_of i) = omega (arith, length-plan_of i) in (
@@ -36,7 +36,7 @@ loop-again c =
           ∙ ap (λ (k : ℕ). lay k (entry_of i) (lay 0 (plan_of i) out)) place
           ∙ lay-lay 0 (plan_of i) (entry_of i) out (omega arith)
           ∙ ap (λ (l : List ℕ). lay 0 l out) (sym (plan_of_more i)),
-      at-lay.lay.auto.0 ∙ h.invariant.2,
+      at-lay.lay.auto.out ∙ h.invariant.2,
     )
 
 returns : tie.Need-returns invariant-loop decreases-loop
@@ -44,7 +44,7 @@ returns c =
     let v = c.before.before.before.args in
     let h = c.before.loop-i in
     let all : h.i ≡ v.n = search rules in
-    h.invariant.1 ∙ ap (λ (k : ℕ). lay 0 (plan_of k) v.out-1.now) all
+    h.invariant.1 ∙ ap (λ (k : ℕ). lay 0 (plan_of k) v.out.now) all
 
 pub put_plan_spec : {M : Type 1} → statement M
 put_plan_spec =

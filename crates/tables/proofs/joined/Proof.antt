@@ -13,5 +13,5 @@ returns : tie.Need-returns
 unfolding joined table_from entry number substitute affine inverse product
 returns c = refl
 
-pub joined-spec : {M : Type 1} → statement M
-joined-spec = tie.close (tie.spec returns)
+pub joined_spec : {M : Type 1} → statement M
+joined_spec = tie.close (tie.spec returns)

@@ -24,8 +24,8 @@ back-back x = refl
 returns : tie.Need-returns
 returns c =
     let x = c.before.before.args.x in
-    let r = c.pack-eight.result in
-    let bytes-are : little 8 r ≡ back (little 8 x) = c.pack-eight.ensures ∙ ap back c.before.unpack-eight.ensures in
+    let r = c.pack_eight.result in
+    let bytes-are : little 8 r ≡ back (little 8 x) = c.pack_eight.ensures ∙ ap back c.before.unpack_eight-b.ensures in
     (big-back r ∙ ap back bytes-are ∙ back-back x, bytes-are ∙ sym (big-back x))
 
 pub turned_spec : {M : Type 1} → statement M

@@ -9,8 +9,8 @@ returns : tie.Need-returns
 unfolding last_round
 returns c =
     let v = c.before.before.before.args in
-    c.add-round-key.ensures
-    ∙ ap (add_round_key v.w.now v.n) (c.before.shift-rows.ensures ∙ ap shift_rows c.before.before.sub-bytes.ensures)
+    c.add_round_key.ensures
+    ∙ ap (add_round_key v.w.now v.n) (c.before.shift_rows-b.ensures ∙ ap shift_rows c.before.before.sub_bytes-a.ensures)
 
-pub last-round-spec : {M : Type 1} → statement M
-last-round-spec = tie.close (tie.spec (λ c κs. search rules) (λ c κs. search rules) (λ c κs. search rules) returns)
+pub last_round_spec : {M : Type 1} → statement M
+last_round_spec = tie.close (tie.spec (λ c κs. search rules) (λ c κs. search rules) (λ c κs. search rules) returns)

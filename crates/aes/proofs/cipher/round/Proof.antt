@@ -9,10 +9,10 @@ returns : tie.Need-returns
 unfolding round
 returns c =
     let v = c.before.before.before.before.args in
-    c.add-round-key.ensures
+    c.add_round_key.ensures
     ∙ ap (add_round_key v.w.now v.n)
-    (c.before.mix-columns.ensures ∙ ap mix_columns (c.before.before.shift-rows.ensures ∙ ap shift_rows c.before.before.before.sub-bytes.ensures))
+    (c.before.mix_columns-c.ensures ∙ ap mix_columns (c.before.before.shift_rows-b.ensures ∙ ap shift_rows c.before.before.before.sub_bytes-a.ensures))
 
-pub round-spec : {M : Type 1} → statement M
-round-spec =
+pub round_spec : {M : Type 1} → statement M
+round_spec =
     tie.close (tie.spec (λ c κs. search rules) (λ c κs. search rules) (λ c κs. search rules) (λ c κs. search rules) returns)

@@ -13,37 +13,37 @@ use Rattle.aes.proofs.Words.{fill_step}
 use Rattle.aes.proofs.expansion.fill.Statement.{statement}
 use Rattle.aes.proofs.expansion.fill.Tie as tie
 
-abbrev invariant-loop : tie.invariant-loop
+abbrev invariant-loop : tie.invariant-loop-k
 invariant-loop table w₀ nk n k₀ w k = (k ≤ n) × (w ≡ lay 0 (words nk (take (4 * nk) w₀) k) w₀) × (length w ≡ length w₀)
 
-abbrev decreases-loop : tie.decreases-loop
+abbrev decreases-loop : tie.decreases-loop-k
 decreases-loop table w₀ nk n k₀ w k = n - k
 
 -- src/expansion.rt:81:5
-loop-holds : tie.Need-loop-init invariant-loop decreases-loop
+loop-holds : tie.Need-loop-k-init invariant-loop decreases-loop
 unfolding words
 loop-holds c =
     let v = c.before.args in
     (search rules, sym (lay_front (4 * v.nk) v.w.now (omega arith)), refl)
 
 -- src/expansion.rt:82:41
-add-next-word : tie.Need-overflow-add-next-word invariant-loop decreases-loop
+add-next-word : tie.Need-overflow_add-nk invariant-loop decreases-loop
 add-next-word c = search rules
 
 -- src/expansion.rt:82:17
-next-word-requires : tie.Need-next-word-requires invariant-loop decreases-loop
+next-word-requires : tie.Need-next_word-a-requires invariant-loop decreases-loop
 next-word-requires c κs = search rules
 
 -- src/expansion.rt:83:28
-add-lay : tie.Need-overflow-add-lay invariant-loop decreases-loop
+add-lay : tie.Need-overflow_add-nk-in-loop-k invariant-loop decreases-loop
 add-lay c = search rules
 
 -- src/expansion.rt:83:23
-mul-lay : tie.Need-overflow-mul-lay invariant-loop decreases-loop
+mul-lay : tie.Need-overflow_mul-nk invariant-loop decreases-loop
 mul-lay c = search rules
 
 -- src/expansion.rt:83:37
-slice-aggregate-lay : tie.Need-slice-aggregate-lay invariant-loop decreases-loop
+slice-aggregate-lay : tie.Need-slice_bounds-lay-end invariant-loop decreases-loop
 slice-aggregate-lay c = search rules
 
 -- src/expansion.rt:83:9
@@ -51,40 +51,40 @@ lay-requires : tie.Need-lay-requires invariant-loop decreases-loop
 lay-requires c κs = search rules
 
 -- src/expansion.rt:84:9
-add-k : tie.Need-overflow-add-k invariant-loop decreases-loop
+add-k : tie.Need-overflow_add-k invariant-loop decreases-loop
 add-k c = search rules
 
 -- src/expansion.rt:81:5
-loop-less : tie.Need-loop-smaller invariant-loop decreases-loop
+loop-less : tie.Need-loop-k-smaller invariant-loop decreases-loop
 loop-less c = search rules
 
 -- src/expansion.rt:81:5
-loop-again : tie.Need-loop-preserved invariant-loop decreases-loop
+loop-again : tie.Need-loop-k-preserved invariant-loop decreases-loop
 loop-again c =
-    let at-loop = c.before.before.before.before.before.before.before.before in
-    let v = at-loop.before.before.args in
-    let h = at-loop.loop in
+    let at-loop = c.before.before.before.before.before.before.before in
+    let v = at-loop.before.args in
+    let h = at-loop.loop-k in
     let i = v.nk + h.k in
     let key = take (4 * v.nk) v.w.now in
     let own : length key ≡ 4 * v.nk = length-take-le (4 * v.nk) v.w.now (omega arith) in (
       search rules,
       c.before.before.lay.ensures
-          ∙ ap (λ (a : List ℕ). lay (4 * i) a h.w) c.before.before.before.before.before.next_word.ensures
+          ∙ ap (λ (a : List ℕ). lay (4 * i) a h.w) c.before.before.before.before.before.next_word-a.ensures
           ∙ ap (λ (l : List ℕ). lay (4 * i) (next v.nk i l) l) h.invariant.1
           ∙ fill_step v.nk h.k key v.w.now own (omega arith) (omega arith),
-      c.before.before.lay.auto.0 ∙ h.invariant.2,
+      c.before.before.lay.auto.out ∙ h.invariant.2,
     )
 
 -- src/expansion.rt:74:1
-same_length : tie.Need-same-length invariant-loop decreases-loop
+same_length : tie.Need-shape_of-w invariant-loop decreases-loop
 same_length c = search rules
 
 -- src/expansion.rt:74:1
 returns : tie.Need-returns invariant-loop decreases-loop
 returns c =
     let v = c.before.before.before.args in
-    let done : c.before.loop.k ≡ v.n = omega arith in
-    c.before.loop.invariant.1 ∙ ap (λ (k : ℕ). lay 0 (words v.nk (take (4 * v.nk) v.w.now) k) v.w.now) done
+    let done : c.before.loop-k.k ≡ v.n = omega arith in
+    c.before.loop-k.invariant.1 ∙ ap (λ (k : ℕ). lay 0 (words v.nk (take (4 * v.nk) v.w.now) k) v.w.now) done
 
 pub fill_spec : {M : Type 1} → statement M
 fill_spec =

@@ -10,9 +10,9 @@ returns : tie.Need-returns
 unfolding next
 returns c =
     let v = c.before.before.before.before.before.args in
-    c.xor-word.ensures
-    ∙ ap₂ xor c.before.word2.ensures (c.before.before.temp.ensures ∙ ap (temp v.nk v.i) c.before.before.before.word.ensures)
+    c.xor_word.ensures
+    ∙ ap₂ xor c.before.word-old.ensures (c.before.before.temp-t.ensures ∙ ap (temp v.nk v.i) c.before.before.before.word-before.ensures)
 
-pub next-word-spec : {M : Type 1} → statement M
-next-word-spec =
+pub next_word_spec : {M : Type 1} → statement M
+next_word_spec =
     tie.close (tie.spec (λ c. search rules) (λ c κs. search rules) (λ c κs. search rules) (λ c. search rules) (λ c κs. search rules) (λ c κs. search rules) returns)

@@ -11,5 +11,5 @@ returns : tie.Need-returns
 unfolding power table_from
 returns c = at power 10 _ refl c.args.n (search rules)
 
-pub power-spec : {M : Type 1} → statement M
-power-spec = tie.close (tie.spec (λ c. search rules) returns)
+pub power_spec : {M : Type 1} → statement M
+power_spec = tie.close (tie.spec (λ c. search rules) returns)

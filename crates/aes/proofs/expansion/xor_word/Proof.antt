@@ -7,8 +7,8 @@ use Rattle.aes.proofs.expansion.xor_word.Tie as tie
 
 returns : tie.Need-returns
 unfolding table_from
-returns c = xor-table c.args.t1 c.args.t2 4 (search rules) (search rules)
+returns c = xor-table c.args.a c.args.b 4 (search rules) (search rules)
 
-pub xor-word-spec : {M : Type 1} → statement M
-xor-word-spec =
+pub xor_word_spec : {M : Type 1} → statement M
+xor_word_spec =
     tie.close (tie.spec (λ c. search rules) (λ c. search rules) (λ c. search rules) (λ c. search rules) (λ c. search rules) (λ c. search rules) (λ c. search rules) (λ c. search rules) returns)

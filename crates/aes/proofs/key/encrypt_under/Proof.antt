@@ -13,35 +13,35 @@ use Rattle.aes.proofs.Keys.{Usable, refused, accepted}
 use Rattle.aes.proofs.key.encrypt_under.Statement.{statement}
 use Rattle.aes.proofs.key.encrypt_under.Tie as tie
 
-returns : tie.Need-returns
+returns : tie.Need-returns-then-rounds-eq0
 unfolding ciphered_of zeros
 returns c =
     let v = c.before.before.before.before.before.args in
-    let none = ap (λ (k : RoundKeys). k.rounds) (sym c.before.expand.ensures) ∙ c.if1.true in
+    let none = ap (λ (k : RoundKeys). k.rounds) (sym c.before.expand-keys.ensures) ∙ c.if-rounds-eq0.true in
     sym (ap (ciphered_as v.key.now v.block) (refused v.key.now none))
 
 -- what is known of the key once its round count is not 0
-usable : (c : tie.Else1) → Usable c.before.before.before.before.before.args.key.now
+usable : (c : tie.Else-rounds-eq0) → Usable c.before.before.before.before.before.args.key.now
 usable c =
     accepted c.before.before.before.before.before.args.key.now
-    (λ z. c.if1.false (ap (λ (k : RoundKeys). k.rounds) c.before.expand.ensures ∙ z))
+    (λ z. c.if-rounds-eq0.false (ap (λ (k : RoundKeys). k.rounds) c.before.expand-keys.ensures ∙ z))
 
-encrypt-requires : tie.Need-encrypt-requires
+encrypt-requires : tie.Need-encrypt-out-requires
 encrypt-requires c κs =
     let made = c.before.before.before.before in
-    let rounds-is = ap (λ (k : RoundKeys). k.rounds) made.expand.ensures in
+    let rounds-is = ap (λ (k : RoundKeys). k.rounds) made.expand-keys.ensures in
     let u = usable c.before.before.before in
-    (made.before.before.sbox.ensures, (omega (arith, rounds-is, u.rounds, u.least), omega (arith, rounds-is, u.rounds, u.most)))
+    (made.before.before.sbox-table.ensures, (omega (arith, rounds-is, u.rounds, u.least), omega (arith, rounds-is, u.rounds, u.most)))
 
-returns-2 : tie.Need-returns-2
+returns-2 : tie.Need-returns
 unfolding ciphered_of
 returns-2 c =
     let left = c.before.before.before.before in
     let v = left.before.before.before.before.before.args in
     let u = usable left in
     ap (λ (b : List ℕ). record { known = true; block = b })
-    (c.encrypt.ensures ∙ ap (λ (k : RoundKeys). cipher k.rounds k.words v.block) left.before.expand.ensures ∙ u.ciphers v.block)
+    (c.encrypt-out.ensures ∙ ap (λ (k : RoundKeys). cipher k.rounds k.words v.block) left.before.expand-keys.ensures ∙ u.ciphers v.block)
     ∙ sym (ap (ciphered_as v.key.now v.block) u.known)
 
-pub encrypt-under-spec : {M : Type 1} → statement M
-encrypt-under-spec = tie.close (tie.spec (λ c κs. search rules) (λ c κs. search rules) returns encrypt-requires returns-2)
+pub encrypt_under_spec : {M : Type 1} → statement M
+encrypt_under_spec = tie.close (tie.spec (λ c κs. search rules) (λ c κs. search rules) returns encrypt-requires returns-2)

@@ -9,10 +9,10 @@ use Rattle.aes.proofs.state.add_word.Tie as tie
 returns : tie.Need-returns
 unfolding xor
 returns c =
-    let own = c.before.before.pack in
-    let key = c.before.key-word in
+    let own = c.before.before.pack-own in
+    let key = c.before.key_word in
     c.unpack.ensures ∙ little_xor 4 own.result key.result ∙ ap₂ xor own.ensures key.ensures
 
-pub add-word-spec : {M : Type 1} → statement M
-add-word-spec =
+pub add_word_spec : {M : Type 1} → statement M
+add_word_spec =
     tie.close (tie.spec (λ c. search rules) (λ c. search rules) (λ c. search rules) (λ c. search rules) (λ c κs. search rules) (λ c κs. search rules) (λ c κs. search rules) returns)

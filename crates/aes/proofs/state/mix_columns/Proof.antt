@@ -4,5 +4,5 @@ use Rattle.lists.proofs.Four.{four}
 use Rattle.aes.proofs.state.mix_columns.Statement.{statement}
 use Rattle.aes.proofs.state.mix_columns.Tie as tie
 
-pub mix-columns-spec : {M : Type 1} → statement M
-mix-columns-spec = tie.close (tie.spec (λ c. search rules) (λ c κs. search rules) (λ c. search rules) (λ c κs. search rules) (λ c. search rules) (λ c κs. search rules) (λ c. search rules) (λ c κs. search rules) (λ c. search four))
+pub mix_columns_spec : {M : Type 1} → statement M
+mix_columns_spec = tie.close (tie.spec (λ c. search rules) (λ c κs. search rules) (λ c. search rules) (λ c κs. search rules) (λ c. search rules) (λ c κs. search rules) (λ c. search rules) (λ c κs. search rules) (λ c. search four))

@@ -11,5 +11,5 @@ returns c =
     let v = c.before.before.args in
     ap₂ (λ (x y : ℕ). bit_xor (bit_xor (bit_xor x y) v.c) v.d) c.before.twice.ensures c.thrice.ensures
 
-pub mixed-spec : {M : Type 1} → statement M
-mixed-spec = tie.close (tie.spec (λ c κs. search rules) (λ c κs. search rules) returns)
+pub mixed_spec : {M : Type 1} → statement M
+mixed_spec = tie.close (tie.spec (λ c κs. search rules) (λ c κs. search rules) returns)

@@ -7,6 +7,6 @@ use Rattle.aes.proofs.state.sub_word.Tie as tie
 returns : tie.Need-returns
 returns c = search four
 
-pub sub-word-spec : {M : Type 1} → statement M
-sub-word-spec =
+pub sub_word_spec : {M : Type 1} → statement M
+sub_word_spec =
     tie.close (tie.spec (λ c. search rules) (λ c κs. search rules) (λ c. search rules) (λ c κs. search rules) (λ c. search rules) (λ c κs. search rules) (λ c. search rules) (λ c κs. search rules) returns)

@@ -12,21 +12,21 @@ use Rattle.block.proofs.Words.{top, top_bit, reduced_big}
 use Rattle.block.proofs.wide.double_big.Statement.{statement}
 use Rattle.block.proofs.wide.double_big.Tie as tie
 
-first_fits : (c : tie.Start) → Fits w64 (get_or c.args.t1 0 0)
+first_fits : (c : tie.Start) → Fits w64 (get_or c.args.x 0 0)
 first_fits c = search rules
 
-mul-bit : tie.Need-overflow-mul-t16
+mul-bit : tie.Need-overflow_mul-result
 mul-bit c = record { fits = omega (arith, (first_fits c.before).fits) }
 
 returns : tie.Need-returns
 unfolding big_of double
 returns c =
     let start = c.before in
-    let a = get_or start.args.t1 0 0 in
-    let s = c.shift-big.result in
+    let a = get_or start.args.x 0 0 in
+    let s = c.shift_big-s.result in
     sym
-    (ap₂ reduced (top_bit a (first_fits start).ranges) (sym c.shift-big.ensures)
-    ∙ reduced_big (get_or s 0 0) (get_or s 1 0) (a / top) (omega (arith, (first_fits start).ranges)))
+    (ap₂ reduced (top_bit a (first_fits start).fits) (sym c.shift_big-s.ensures)
+    ∙ reduced_big (get_or s 0 0) (get_or s 1 0) (a / top) (omega (arith, (first_fits start).fits)))
 
-pub double-big-spec : {M : Type 1} → statement M
-double-big-spec = tie.close (tie.spec (λ c κs. search rules) (λ c. search rules) (λ c. search rules) (λ c. search rules) mul-bit returns)
+pub double_big_spec : {M : Type 1} → statement M
+double_big_spec = tie.close (tie.spec (λ c κs. search rules) (λ c. search rules) (λ c. search rules) (λ c. search rules) mul-bit returns)

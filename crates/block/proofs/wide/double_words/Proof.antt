@@ -6,7 +6,7 @@ use Rattle.block.proofs.wide.double_words.Statement.{statement}
 use Rattle.block.proofs.wide.double_words.Tie as tie
 
 returns : tie.Need-returns
-returns c = c.turn-words2.ensures.1 ∙ c.before.double-big.ensures ∙ ap double c.before.before.turn-words.ensures.0
+returns c = c.turn_words-2.ensures.1 ∙ c.before.double_big.ensures ∙ ap double c.before.before.turn_words.ensures.0
 
-pub double-words-spec : {M : Type 1} → statement M
-double-words-spec = tie.close (tie.spec (λ c κs. search rules) (λ c κs. search rules) (λ c κs. search rules) returns)
+pub double_words_spec : {M : Type 1} → statement M
+double_words_spec = tie.close (tie.spec (λ c κs. search rules) (λ c κs. search rules) (λ c κs. search rules) returns)

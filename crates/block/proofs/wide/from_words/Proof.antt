@@ -15,8 +15,8 @@ eight l =
 
 returns : tie.Need-returns
 unfolding bytes_of little
-returns c = ap₂ (λ (a b : List ℕ). eight a ++ eight b) c.before.unpack-eight.ensures c.unpack-eight2.ensures
+returns c = ap₂ (λ (a b : List ℕ). eight a ++ eight b) c.before.unpack_eight-a.ensures c.unpack_eight-b.ensures
 
-pub from-words-spec : {M : Type 1} → statement M
-from-words-spec =
+pub from_words_spec : {M : Type 1} → statement M
+from_words_spec =
     tie.close (tie.spec (λ c. search rules) (λ c κs. search rules) (λ c. search rules) (λ c κs. search rules) (λ c. search rules) (λ c. search rules) (λ c. search rules) (λ c. search rules) (λ c. search rules) (λ c. search rules) (λ c. search rules) (λ c. search rules) (λ c. search rules) (λ c. search rules) (λ c. search rules) (λ c. search rules) (λ c. search rules) (λ c. search rules) (λ c. search rules) (λ c. search rules) returns)

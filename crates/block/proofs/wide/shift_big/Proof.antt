@@ -9,9 +9,9 @@ use Rattle.block.specs.Wide.{big_of}
 use Rattle.block.proofs.wide.shift_big.Statement.{statement}
 use Rattle.block.proofs.wide.shift_big.Tie as tie
 
-add_words : tie.Need-overflow-add-t12
+add_words : tie.Need-overflow_add-result
 add_words c =
-    let x = c.args.t1 in
+    let x = c.args.x in
     let fits-a : Fits w64 (get_or x 0 0) = search rules in
     let fits-b : Fits w64 (get_or x 1 0) = search rules in
     record { fits = fits (get_or x 0 0) (get_or x 1 0) fits-a.fits fits-b.fits }
@@ -19,11 +19,11 @@ add_words c =
 returns : tie.Need-returns
 unfolding big_of
 returns c =
-    let x = c.args.t1 in
+    let x = c.args.x in
     let fits-a : Fits w64 (get_or x 0 0) = search rules in
     let fits-b : Fits w64 (get_or x 1 0) = search rules in
     sym (shifted (get_or x 0 0) (get_or x 1 0) fits-a.fits fits-b.fits)
 
-pub shift-big-spec : {M : Type 1} → statement M
-shift-big-spec =
+pub shift_big_spec : {M : Type 1} → statement M
+shift_big_spec =
     tie.close (tie.spec (λ c. search rules) (λ c. search rules) (λ c. search rules) add_words (λ c. search rules) (λ c. search rules) returns)

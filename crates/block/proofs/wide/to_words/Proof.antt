@@ -12,9 +12,9 @@ use Rattle.block.proofs.wide.to_words.Tie as tie
 returns : tie.Need-returns
 unfolding bytes_of table_from
 returns c =
-    let b = c.before.before.args.t1 in
+    let b = c.before.before.args.b in
     let long : length b ≡ 16 = search rules in
-    ap₂ ◌++◌ c.before.pack-eight.ensures c.pack-eight2.ensures ∙ as_table b 16 (λ i. get_or b i 0) long (λ i h. refl)
+    ap₂ ◌++◌ c.before.pack_eight.ensures c.pack_eight-2.ensures ∙ as_table b 16 (λ i. get_or b i 0) long (λ i h. refl)
 
-pub to-words-spec : {M : Type 1} → statement M
-to-words-spec = tie.close (tie.spec (λ c. search rules) (λ c. search rules) (λ c. search rules) (λ c. search rules) (λ c. search rules) (λ c. search rules) (λ c. search rules) (λ c. search rules) (λ c κs. search rules) (λ c. search rules) (λ c. search rules) (λ c. search rules) (λ c. search rules) (λ c. search rules) (λ c. search rules) (λ c. search rules) (λ c. search rules) (λ c κs. search rules) returns)
+pub to_words_spec : {M : Type 1} → statement M
+to_words_spec = tie.close (tie.spec (λ c. search rules) (λ c. search rules) (λ c. search rules) (λ c. search rules) (λ c. search rules) (λ c. search rules) (λ c. search rules) (λ c. search rules) (λ c κs. search rules) (λ c. search rules) (λ c. search rules) (λ c. search rules) (λ c. search rules) (λ c. search rules) (λ c. search rules) (λ c. search rules) (λ c. search rules) (λ c κs. search rules) returns)

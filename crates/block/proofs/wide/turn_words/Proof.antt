@@ -10,8 +10,8 @@ returns : tie.Need-returns
 unfolding bytes_of big_of
 returns c =
     let first = c.before.turned.ensures in
-    let second = c.turned2.ensures in
+    let second = c.turned-2.ensures in
     (ap₂ ◌++◌ first.0 second.0, ap₂ ◌++◌ first.1 second.1)
 
-pub turn-words-spec : {M : Type 1} → statement M
-turn-words-spec = tie.close (tie.spec (λ c. search rules) (λ c κs. search rules) (λ c. search rules) (λ c κs. search rules) returns)
+pub turn_words_spec : {M : Type 1} → statement M
+turn_words_spec = tie.close (tie.spec (λ c. search rules) (λ c κs. search rules) (λ c. search rules) (λ c κs. search rules) returns)

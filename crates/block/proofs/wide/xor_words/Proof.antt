@@ -13,10 +13,10 @@ use Rattle.block.proofs.wide.xor_words.Tie as tie
 returns : tie.Need-returns
 unfolding bytes_of little
 returns c =
-    let a = c.args.t1 in
-    let b = c.args.t2 in
+    let a = c.args.a in
+    let b = c.args.b in
     ap₂ ◌++◌ (little_xor 8 (get_or a 0 0) (get_or b 0 0)) (little_xor 8 (get_or a 1 0) (get_or b 1 0))
     ∙ sym (xor-append (little 8 (get_or a 0 0)) (little 8 (get_or a 1 0)) (little 8 (get_or b 0 0)) (little 8 (get_or b 1 0)) refl)
 
-pub xor-words-spec : {M : Type 1} → statement M
-xor-words-spec = tie.close (tie.spec (λ c. search rules) (λ c. search rules) (λ c. search rules) (λ c. search rules) returns)
+pub xor_words_spec : {M : Type 1} → statement M
+xor_words_spec = tie.close (tie.spec (λ c. search rules) (λ c. search rules) (λ c. search rules) (λ c. search rules) returns)
