@@ -122,7 +122,7 @@ module _ (E : List ℕ → List ℕ) (e : IsCipher E) (q : List ℕ) (f : Editio
 
   -- undoing after sealing, and sealing after undoing
   pub otr_undone : (m : List ℕ) → unbody E k (body E k m) ≡ m
-  otr_undone = Walk.body-undone E e k s
+  otr_undone = Walk.body_undone E e k s
 
   pub otr-sealed : (c : List ℕ) → body E k (unbody E k c) ≡ c
   otr-sealed = Walk.unbody-sealed E e k s
