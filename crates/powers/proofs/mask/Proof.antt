@@ -14,11 +14,11 @@ returns c =
     let at-power = at-product.before in
     let first = at-power.before in
     let v = first.before.args in
-    c.turn-words2.ensures.1
+    c.turn_words.ensures.1
     ∙ at-product.product.ensures
-    ∙ ap₂ product first.turn-words.ensures.0 at-power.power.ensures
+    ∙ ap₂ product first.turn_words-first.ensures.0 at-power.power-x.ensures
     ∙ product-power v.n (bytes_of v.u) (words_block v.u)
 
-pub mask-spec : {M : Type 1} → statement M
-mask-spec =
+pub mask_spec : {M : Type 1} → statement M
+mask_spec =
     tie.close (tie.spec (λ c κs. search rules) (λ c κs. search rules) (λ c κs. search rules) (λ c κs. search rules) returns)

@@ -9,15 +9,15 @@ use Rattle.powers.proofs.Words.{next_big}
 use Rattle.powers.proofs.next_byte.Statement.{statement}
 use Rattle.powers.proofs.next_byte.Tie as tie
 
-second_fits : (c : tie.Start) → Fits w64 (get_or c.args.t1 1 0)
+second_fits : (c : tie.Start) → Fits w64 (get_or c.args.x 1 0)
 second_fits c = search rules
 
-add_words : tie.Need-overflow-add-t11
+add_words : tie.Need-overflow_add-result
 add_words c = record { fits = omega (arith, c.requires, (second_fits c).ranges) }
 
 returns : tie.Need-returns
 unfolding big_of
-returns c = next_big (get_or c.args.t1 0 0) (get_or c.args.t1 1 0) c.requires (second_fits c).ranges
+returns c = next_big (get_or c.args.x 0 0) (get_or c.args.x 1 0) c.requires (second_fits c).fits
 
-pub next-byte-spec : {M : Type 1} → statement M
-next-byte-spec = tie.close (tie.spec (λ c. search rules) (λ c. search rules) (λ c. search rules) add_words (λ c. search rules) (λ c. search rules) returns)
+pub next_byte_spec : {M : Type 1} → statement M
+next_byte_spec = tie.close (tie.spec (λ c. search rules) (λ c. search rules) (λ c. search rules) add_words (λ c. search rules) (λ c. search rules) returns)

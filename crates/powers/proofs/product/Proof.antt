@@ -8,5 +8,5 @@ returns : tie.Need-returns
 unfolding product
 returns c = c.horner.ensures
 
-pub product-spec : {M : Type 1} → statement M
-product-spec = tie.close (tie.spec (λ c κs. search rules) returns)
+pub product_spec : {M : Type 1} → statement M
+product_spec = tie.close (tie.spec (λ c κs. search rules) returns)

@@ -15,32 +15,32 @@ use Rattle.powers.proofs.Words.{bit_times, added, highest}
 use Rattle.powers.proofs.step.Statement.{statement}
 use Rattle.powers.proofs.step.Tie as tie
 
-first_fits : (c : tie.Start) → Fits w64 (get_or c.args.t1 0 0)
+first_fits : (c : tie.Start) → Fits w64 (get_or c.args.a 0 0)
 first_fits c = search rules
 
-bit-small : (c : tie.Start) → get_or c.args.t1 0 0 / top < 2
-bit-small c = omega (arith, (first_fits c).ranges)
+bit-small : (c : tie.Start) → get_or c.args.a 0 0 / top < 2
+bit-small c = omega (arith, (first_fits c).fits)
 
-mul-first : tie.Need-overflow-mul-t17
+mul-first : tie.Need-overflow_mul-result
 mul-first c =
     let start = c.before in
-    let fits-b : Fits w64 (get_or start.args.t2 0 0) = search rules in
-    record { fits = bit_times (get_or start.args.t1 0 0 / top) (get_or start.args.t2 0 0) (bit-small start) fits-b.fits }
+    let fits-b : Fits w64 (get_or start.args.b 0 0) = search rules in
+    record { fits = bit_times (get_or start.args.a 0 0 / top) (get_or start.args.b 0 0) (bit-small start) fits-b.fits }
 
-mul-second : tie.Need-overflow-mul-t25
+mul-second : tie.Need-overflow_mul-result-2
 mul-second c =
     let start = c.before in
-    let fits-b : Fits w64 (get_or start.args.t2 1 0) = search rules in
-    record { fits = bit_times (get_or start.args.t1 0 0 / top) (get_or start.args.t2 1 0) (bit-small start) fits-b.fits }
+    let fits-b : Fits w64 (get_or start.args.b 1 0) = search rules in
+    record { fits = bit_times (get_or start.args.a 0 0 / top) (get_or start.args.b 1 0) (bit-small start) fits-b.fits }
 
 returns : tie.Need-returns
 unfolding big_of
 returns c =
     let start = c.before in
     let v = start.args in
-    let d = c.double-big.result in
-    added (get_or d 0 0) (get_or d 1 0) (get_or v.t2 0 0) (get_or v.t2 1 0) (get_or v.t1 0 0 / top) (bit-small start)
-    ∙ ap₂ (λ (x : List ℕ) (t : ℕ). xor x (times t (big_of v.t2))) c.double-big.ensures (highest v.t1 (first_fits start).ranges)
+    let d = c.double_big-d.result in
+    added (get_or d 0 0) (get_or d 1 0) (get_or v.b 0 0) (get_or v.b 1 0) (get_or v.a 0 0 / top) (bit-small start)
+    ∙ ap₂ (λ (x : List ℕ) (t : ℕ). xor x (times t (big_of v.b))) c.double_big-d.ensures (highest v.a (first_fits start).fits)
 
 pub step_spec : {M : Type 1} → statement M
 step_spec =

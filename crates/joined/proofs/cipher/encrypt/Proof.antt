@@ -8,10 +8,10 @@ returns : tie.Need-returns
 returns c =
     let at-input = c.before.before.before.before in
     let v = at-input.before.args in
-    cipher_by v.nr v.w.now v.block _ _ _ _ _ at-input.input.ensures c.before.before.before.add-round-key.ensures
-    c.before.before.rounds.ensures c.before.last-round.ensures c.output.ensures
+    cipher_by v.nr v.w.now v.block _ _ _ _ _ at-input.input-s.ensures c.before.before.before.add_round_key-first.ensures
+    c.before.before.rounds-most.ensures c.before.last_round-all.ensures c.output.ensures
 
-pub encrypt-spec : {M : Type 1} → statement M
-encrypt-spec =
+pub encrypt_spec : {M : Type 1} → statement M
+encrypt_spec =
     tie.close
     (tie.spec (λ c κs. search rules) (λ c κs. search rules) (λ c. search rules) (λ c κs. search rules) (λ c κs. search rules) (λ c κs. search rules) returns)

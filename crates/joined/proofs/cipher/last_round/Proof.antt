@@ -9,8 +9,8 @@ returns : tie.Need-returns
 unfolding last_round
 returns c =
     let v = c.before.before.before.args in
-    c.add-round-key.ensures
-    ∙ ap (add_round_key v.w.now v.n) (c.before.sub-bytes.ensures ∙ ap sub_bytes c.before.before.shift-rows.ensures)
+    c.add_round_key.ensures
+    ∙ ap (add_round_key v.w.now v.n) (c.before.sub_bytes-b.ensures ∙ ap sub_bytes c.before.before.shift_rows-a.ensures)
 
-pub last-round-spec : {M : Type 1} → statement M
-last-round-spec = tie.close (tie.spec (λ c κs. search rules) (λ c κs. search rules) (λ c κs. search rules) returns)
+pub last_round_spec : {M : Type 1} → statement M
+last_round_spec = tie.close (tie.spec (λ c κs. search rules) (λ c κs. search rules) (λ c κs. search rules) returns)

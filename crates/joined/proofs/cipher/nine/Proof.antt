@@ -9,24 +9,24 @@ returns : tie.Need-returns
 unfolding rounds
 returns c =
     let w = c.before.before.before.before.before.before.before.before.before.args.w.now in
-    let ninth : c.round9.result ≡ round w 9 c.before.round8.result = c.round9.ensures in
+    let ninth : c.round.result ≡ round w 9 c.before.round-h.result = c.round.ensures in
     ninth
     ∙ ap (round w 9)
-    (c.before.round8.ensures
+    (c.before.round-h.ensures
     ∙ ap (round w 8)
-    (c.before.before.round7.ensures
+    (c.before.before.round-g.ensures
     ∙ ap (round w 7)
-    (c.before.before.before.round6.ensures
+    (c.before.before.before.round-f.ensures
     ∙ ap (round w 6)
-    (c.before.before.before.before.round5.ensures
+    (c.before.before.before.before.round-e.ensures
     ∙ ap (round w 5)
-    (c.before.before.before.before.before.round4.ensures
+    (c.before.before.before.before.before.round-d.ensures
     ∙ ap (round w 4)
-    (c.before.before.before.before.before.before.round3.ensures
+    (c.before.before.before.before.before.before.round-c.ensures
     ∙ ap (round w 3)
-    (c.before.before.before.before.before.before.before.round2.ensures
-    ∙ ap (round w 2) c.before.before.before.before.before.before.before.before.round.ensures)))))))
+    (c.before.before.before.before.before.before.before.round-b.ensures
+    ∙ ap (round w 2) c.before.before.before.before.before.before.before.before.round-a.ensures)))))))
 
-pub nine-spec : {M : Type 1} → statement M
-nine-spec =
+pub nine_spec : {M : Type 1} → statement M
+nine_spec =
     tie.close (tie.spec (λ c κs. search rules) (λ c κs. search rules) (λ c κs. search rules) (λ c κs. search rules) (λ c κs. search rules) (λ c κs. search rules) (λ c κs. search rules) (λ c κs. search rules) (λ c κs. search rules) returns)

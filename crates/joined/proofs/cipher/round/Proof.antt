@@ -22,9 +22,9 @@ returns c =
     let at_rows = first.before.before in
     let v = at_rows.before.args in
     let col : ℕ → List (List ℕ) → List ℕ = λ i a. xor (mixed_column (sub_word (get_or a i []))) (word v.w.now (4 * v.n + i)) in
-    four first.round-column.ensures second.round-column2.ensures third.round-column3.ensures c.round-column4.ensures
-    ∙ ap (λ (a : List (List ℕ)). col 0 a ∷ col 1 a ∷ col 2 a ∷ col 3 a ∷ []) at_rows.shift-rows.ensures
+    four first.round_column.ensures second.round_column-2.ensures third.round_column-3.ensures c.round_column-4.ensures
+    ∙ ap (λ (a : List (List ℕ)). col 0 a ∷ col 1 a ∷ col 2 a ∷ col 3 a ∷ []) at_rows.shift_rows-a.ensures
 
-pub round-spec : {M : Type 1} → statement M
-round-spec =
+pub round_spec : {M : Type 1} → statement M
+round_spec =
     tie.close (tie.spec (λ c κs. search rules) (λ c. search rules) (λ c. search rules) (λ c. search rules) (λ c κs. search rules) (λ c. search rules) (λ c. search rules) (λ c κs. search rules) (λ c. search rules) (λ c. search rules) (λ c κs. search rules) (λ c. search rules) (λ c. search rules) (λ c κs. search rules) returns)

@@ -19,6 +19,6 @@ returns c =
     looked-up
     ∙ column_is t start.requires v.a v.b v.c v.d v.k (search rules) (search rules) (search rules) (search rules)
 
-pub looked-up-spec : {M : Type 1} → statement M
-looked-up-spec =
+pub looked_up_spec : {M : Type 1} → statement M
+looked_up_spec =
     tie.close (tie.spec (λ c. search rules) (λ c. search rules) (λ c. search rules) (λ c. search rules) (λ c. search rules) (λ c. search rules) (λ c. search rules) (λ c. search rules) (λ c. search rules) (λ c. search rules) (λ c. search rules) (λ c κs. search rules) returns)

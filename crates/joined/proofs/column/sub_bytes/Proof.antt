@@ -4,6 +4,6 @@ use Rattle.lists.proofs.Four.{four}
 use Rattle.joined.proofs.column.sub_bytes.Statement.{statement}
 use Rattle.joined.proofs.column.sub_bytes.Tie as tie
 
-pub sub-bytes-spec : {M : Type 1} → statement M
-sub-bytes-spec =
+pub sub_bytes_spec : {M : Type 1} → statement M
+sub_bytes_spec =
     tie.close (tie.spec (λ c. search rules) (λ c κs. search rules) (λ c. search rules) (λ c κs. search rules) (λ c. search rules) (λ c κs. search rules) (λ c. search rules) (λ c κs. search rules) (λ c. search four))
