@@ -37,7 +37,7 @@ add-runs c =
     let at-data = c.before.before in
     let start = start_of at-data in
     let v = start.args in
-    record { fits = omega (arith, runs_are at-data, length-call_inputs (E start) v.q (edition_of v.edition v.form) v.n.now v.a.now v.t, start.good) }
+    record { fits = omega (arith, runs_are at-data, length-call_inputs (E start) v.q (edition_of v.edition v.form) v.n.now v.a.now v.t, start.ranges) }
 
 returns : tie.Need-returns
 returns c =

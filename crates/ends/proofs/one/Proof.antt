@@ -27,7 +27,7 @@ part-long c =
     let start = start_of c in
     let n = length start.args.src.now - start.args.at in
     let long : length c.xor.result ≡ 16 = search c.xor.type-inv in
-    length-take-le n c.xor.result (omega (arith, start.pre))
+    length-take-le n c.xor.result (omega (arith, start.requires))
 
 part-is : (c : tie.After-xor)
     → take (length (start_of c).args.src.now - (start_of c).args.at) c.xor.result
@@ -69,7 +69,7 @@ returns-2 c =
     let x = drop v.at v.src.now in
     let some : length v.src.now - v.at ≡ 0 → ⊥ = at-xor.before.before.before.if1.false in
     let long : length x ≡ length v.src.now - v.at = length-drop v.at v.src.now in
-    let most : length x ≤ 16 = omega (arith, long, start.pre.1.1) in (
+    let most : length x ≤ 16 = omega (arith, long, start.requires.1.1) in (
       at-lay.lay.ensures ∙ ap (λ (l : List ℕ). lay v.at l v.out.now) (part-is at-xor),
       (part-is at-xor, omega (arith, some, long, most, length-one_inputs v.l x most)),
     )

@@ -118,7 +118,7 @@ own_of c = c.before.before.before.before.before.before.before
 add-length : tie.Need-overflow-add-t17
 add-length c =
     let at_own = own_of c.before.before in
-    record { fits = omega (arith, (passed (else-of (accepted-of at_own))).0.2, (begin-of at_own).good) }
+    record { fits = omega (arith, (passed (else-of (accepted-of at_own))).0.2, (begin-of at_own).ranges) }
 
 add-runs : tie.Need-overflow-add-t19
 add-runs c =
@@ -134,7 +134,7 @@ add-runs c =
         first,
         at-seal.seal.ensures.1,
         length-from_inputs (cipher_of own.result.key) own.result.key.zero (edition_of 3 0) v.nonce.now v.ad.now v.tag v.message.now,
-        start.good,
+        start.ranges,
       );
     }
 

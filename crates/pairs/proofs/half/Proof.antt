@@ -9,7 +9,7 @@ use Rattle.pairs.proofs.half.Tie as tie
 returns : tie.Need-returns
 returns c =
     let v = c.before.before.before.args in
-    (c.xor2.ensures ∙ ap (xor v.y) (c.before.encrypt.ensures ∙ ap (cipher v.nr v.w.now) c.before.before.xor.ensures), refl)
+    (c.xor.ensures ∙ ap (xor v.y) (c.before.encrypt-e.ensures ∙ ap (cipher v.nr v.w.now) c.before.before.xor-inner.ensures), refl)
 
 pub half_spec : {M : Type 1} → statement M
 half_spec = tie.close (tie.spec (λ c κs. search rules) (λ c κs. search rules) (λ c κs. search rules) returns)

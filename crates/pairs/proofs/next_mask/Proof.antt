@@ -9,7 +9,7 @@ use Rattle.pairs.proofs.next_mask.Statement.{statement}
 use Rattle.pairs.proofs.next_mask.Tie as tie
 
 returns : tie.Need-returns
-returns c = c.xor-words.ensures ∙ ap (λ (x : List ℕ). xor x (bytes_of c.before.before.args.a)) c.before.double-words.ensures
+returns c = c.xor_words.ensures ∙ ap (λ (x : List ℕ). xor x (bytes_of c.before.before.args.a)) c.before.double_words.ensures
 
-pub next-mask-spec : {M : Type 1} → statement M
-next-mask-spec = tie.close (tie.spec (λ c κs. search rules) (λ c κs. search rules) returns)
+pub next_mask_spec : {M : Type 1} → statement M
+next_mask_spec = tie.close (tie.spec (λ c κs. search rules) (λ c κs. search rules) returns)

@@ -19,12 +19,12 @@ returns c =
     let at_p = at-q.before in
     let v = at_p.before.before.before.args in
     let E = cipher v.nr v.w.now in
-    let first = at_first.half-words.ensures in
-    let second = at_second.half-words2.ensures in
-    let p-is = at_p.read-words.ensures in
-    let first_is = first.0 ∙ ap₂ (half E (bytes_of v.l)) p-is at-q.read-words2.ensures in
+    let first = at_first.half_words-first.ensures in
+    let second = at_second.half_words-second.ensures in
+    let p-is = at_p.read_words-p.ensures in
+    let first_is = first.0 ∙ ap₂ (half E (bytes_of v.l)) p-is at-q.read_words-q.ensures in
     let second_is = second.0 ∙ ap₂ (half E (bytes_of v.r)) first_is p-is in
-    (at-put.put-pair.ensures ∙ ap (λ (l : List ℕ). lay v.at l v.out.now) (ap₂ ◌++◌ first_is second_is), ap₂ ◌+◌ first.1 second.1)
+    (at-put.put_pair.ensures ∙ ap (λ (l : List ℕ). lay v.at l v.out.now) (ap₂ ◌++◌ first_is second_is), ap₂ ◌+◌ first.1 second.1)
 
 pub pair_spec : {M : Type 1} → statement M
 pair_spec =

@@ -6,11 +6,11 @@ use borrow.Author.Rules.{rules}
 use Rattle.pairs.proofs.pairs_of.Statement.{statement}
 use Rattle.pairs.proofs.pairs_of.Tie as tie
 
-returns : tie.Need-returns
+returns : tie.Need-returns-then-b-eq0
 returns c = omega (arith, pairs_are c.before.args.b)
 
-returns-2 : tie.Need-returns-2
+returns-2 : tie.Need-returns
 returns-2 c = sym (pairs_are c.before.args.b)
 
-pub pairs-of-spec : {M : Type 1} → statement M
-pairs-of-spec = tie.close (tie.spec returns (λ c. search rules) returns-2)
+pub pairs_of_spec : {M : Type 1} → statement M
+pairs_of_spec = tie.close (tie.spec returns (λ c. search rules) returns-2)

@@ -16,11 +16,11 @@ returns c =
     let at_second = at-put.before in
     let at_first = at_second.before in
     let v = at_first.before.before.before.args in
-    let second = at_second.from-words2.result in
+    let second = at_second.from_words-2.result in
     let long : length second ≡ 16 = search rules in
     at-put.put_two.ensures
     ∙ ap (λ (l : List ℕ). lay v.at l v.out.now)
-    (ap₂ ◌++◌ at_first.from-words.ensures (take_all 16 second (omega arith) ∙ at_second.from-words2.ensures))
+    (ap₂ ◌++◌ at_first.from_words.ensures (take_all 16 second (omega arith) ∙ at_second.from_words-2.ensures))
 
-pub put-pair-spec : {M : Type 1} → statement M
-put-pair-spec = tie.close (tie.spec (λ c κs. search rules) (λ c κs. search rules) (λ c κs. search rules) (λ c. search rules) returns)
+pub put_pair_spec : {M : Type 1} → statement M
+put_pair_spec = tie.close (tie.spec (λ c κs. search rules) (λ c κs. search rules) (λ c κs. search rules) (λ c. search rules) returns)

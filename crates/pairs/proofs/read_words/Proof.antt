@@ -5,7 +5,7 @@ use Rattle.pairs.proofs.read_words.Statement.{statement}
 use Rattle.pairs.proofs.read_words.Tie as tie
 
 returns : tie.Need-returns
-returns c = c.to-words.ensures ∙ c.before.read-block.ensures
+returns c = c.to_words.ensures ∙ c.before.read_block.ensures
 
-pub read-words-spec : {M : Type 1} → statement M
-read-words-spec = tie.close (tie.spec (λ c κs. search rules) (λ c κs. search rules) returns)
+pub read_words_spec : {M : Type 1} → statement M
+read_words_spec = tie.close (tie.spec (λ c κs. search rules) (λ c κs. search rules) returns)

@@ -111,7 +111,7 @@ returns c =
       at_tag.put-tag.ensures
           ∙ ap (lay v.held (take v.t x)) (rest_of at-te).seal-rest.ensures.0
           ∙ ap (λ (i : ℕ). lay i (take v.t x) (lay 0 kept v.out.now)) (sym (held_long start))
-          ∙ end_laid E e (masks start) (are-masks start) m (held-most start) (take v.t x) v.out.now (omega (arith, held_long start, length-take v.t x, start.pre.1.1.1.1))
+          ∙ end_laid E e (masks start) (are-masks start) m (held-most start) (take v.t x) v.out.now (omega (arith, held_long start, length-take v.t x, start.requires.1.1.1.1))
           ∙ ap (λ (b : List ℕ). lay 0 (body E (masks start) m ++ take v.t (xor b v.added)) v.out.now) (te-is at-te),
       runs_are at-te,
     )

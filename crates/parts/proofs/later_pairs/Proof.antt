@@ -19,13 +19,13 @@ runs_are : (c : tie.After-next-pairs) → (start_of c).args.front.runs + c.next-
 runs_are c =
     let start = start_of c in
     let v = start.args in
-    ap₂ ◌+◌ start.pre.1.1.1 (c.next-pairs.ensures.1.1 ∙ length-pairs_inputs (cipher v.nr v.w.now) (doubled v.front.left v.front.right) v.n v.tail.now)
+    ap₂ ◌+◌ start.requires.1.1.1 (c.next-pairs.ensures.1.1 ∙ length-pairs_inputs (cipher v.nr v.w.now) (doubled v.front.left v.front.right) v.n v.tail.now)
 
 add-t20 : tie.Need-overflow-add-t20
 add-t20 c =
     let at-pairs = c.before.before.before.before.before.before.before.before.before.before in
     let start = start_of at-pairs in
-    record { fits = omega (arith, runs_are at-pairs, start.pre.1.1.0, start.good) }
+    record { fits = omega (arith, runs_are at-pairs, start.requires.1.1.0, start.ranges) }
 
 returns : tie.Need-returns
 returns c =

@@ -109,7 +109,7 @@ add-runs c =
     let at_open = c.before.before.before.before.before.before in
     let start = opening_of at_open in
     let v = start.args in
-    record { fits = omega (arith, runs_are at_open, length-found_from_inputs (E start) v.q (edition_of v.edition v.form) v.n.now v.a.now v.t v.s.now, start.good) }
+    record { fits = omega (arith, runs_are at_open, length-found_from_inputs (E start) v.q (edition_of v.edition v.form) v.n.now v.a.now v.t v.s.now, start.ranges) }
 
 slice-aggregate-open : tie.Need-slice-aggregate-open
 slice-aggregate-open c = sym (cipher-long c.before.before.before.before.before.before.before.before)
@@ -126,13 +126,13 @@ x-long c = search c.xor.type-inv
 array-share-prefix-x : tie.Need-array-share-prefix-x
 array-share-prefix-x c =
     let start = opening_of c.before.before.before.before.before.before in
-    omega (arith, x-long c.before.before, start.pre.1.1.0)
+    omega (arith, x-long c.before.before, start.requires.1.1.0)
 
 slice-aggregate-equal : tie.Need-slice-aggregate-equal
 slice-aggregate-equal c =
     let at-xor = c.before.before.before in
     let start = opening_of at-xor.before.before.before.before in
-    sym (length-take-le start.args.t at-xor.xor.result (omega (arith, x-long at-xor, start.pre.1.1.0)))
+    sym (length-take-le start.args.t at-xor.xor.result (omega (arith, x-long at-xor, start.requires.1.1.0)))
 
 returns : tie.Need-returns
 returns c =

@@ -52,7 +52,7 @@ add-result c =
     let at-te = c.before.before.before.before.before.before in
     let start = start_of at-te in
     let v = start.args in
-    record { fits = omega (arith, runs_are at-te, length-from_inputs (cipher v.nr v.w.now) v.q (edition_of v.edition v.form) v.n.now v.a.now v.t v.m.now, start.good) }
+    record { fits = omega (arith, runs_are at-te, length-from_inputs (cipher v.nr v.w.now) v.q (edition_of v.edition v.form) v.n.now v.a.now v.t v.m.now, start.ranges) }
 
 returns : tie.Need-returns
 returns c =
@@ -74,8 +74,8 @@ returns c =
     let te-is = at-seal.seal.ensures.1.0 ∙ ap (λ (j : Masks). te E j m) masks-are in (
       at_tag.put-tag.ensures
           ∙ ap₂ (λ (x b : List ℕ). lay (length m) (take v.t x) b) (ap₂ xor te-is with.1.0) body_is
-          ∙ tagged E e k (otr-masks E e v.q f v.n.now v.a.now v.t long start.pre.1.1.0.1.0) (added E v.q f v.n.now v.a.now v.t)
-          (length-added E e v.q f v.n.now v.a.now v.t long) v.t start.pre.1.1.0.1.1 m out start.pre.1.1.1,
+          ∙ tagged E e k (otr-masks E e v.q f v.n.now v.a.now v.t long start.requires.1.1.0.1.0) (added E v.q f v.n.now v.a.now v.t)
+          (length-added E e v.q f v.n.now v.a.now v.t long) v.t start.requires.1.1.0.1.1 m out start.requires.1.1.1,
       runs_are at-te,
     )
 

@@ -46,7 +46,7 @@ pair-at-requires c κs = omega arith
 inside : (c : tie.After-pair-at invariant-loop decreases-loop) → 32 * c.pair-at.result + 32 ≤ length (start_of c.before.before).args.m.now
 inside c =
     let v = (start_of c.before.before).args in
-    let below = (start_of c.before.before).pre.1.1.0.no_other c.before.before.loop.j (omega arith) in
+    let below = (start_of c.before.before).requires.1.1.0.no_other c.before.before.loop.j (omega arith) in
     omega (arith, c.pair-at.ensures, below, pairs-within (length v.m.now))
 
 pair-alone-requires : tie.Need-pair-alone-requires invariant-loop decreases-loop
@@ -91,13 +91,13 @@ returns c =
     let m = v.m.now in
     let plan = v.plan.now in
     let n = pairs_of (length m) in
-    let a = start.pre.1.1.0 in
+    let a = start.requires.1.1.0 in
     let all : h.j ≡ entries plan = omega arith in
     let in-m = pairs-within (length m) in (
       h.invariant.1
           ∙ ap (written (pair_of E k m) v.out.now (pair_at plan)) all
           ∙ ordered_pairs E (is_cipher v.nr v.w.now) k (edition_masks (v3 parallel) (bytes_of first.result) (length-bytes first.result)) m v.out.now n in-m
-          (omega (arith, in-m, start.pre.1.1.1)) (pair_at plan) (entries plan) a.no_other (λ i b. ((a.every i b).entry, (a.every i b).within, (a.every i b).for_it))
+          (omega (arith, in-m, start.requires.1.1.1)) (pair_at plan) (entries plan) a.no_other (λ i b. ((a.every i b).entry, (a.every i b).within, (a.every i b).for_it))
           ∙ ap (λ (u : List ℕ). lay 0 (pairs E (third u) n m) v.out.now) first.ensures,
       omega (arith, h.invariant.3, all, as_many n plan a, length-pairs_inputs E (third v.u) n m),
     )

@@ -52,7 +52,7 @@ seal-behind-requires c κs =
     let at_count = at-masks.before in
     let words = at_count.before.to-words in
     let at-pairs = pairs-at at-masks in
-    let given = (start_of at-pairs).pre in (
+    let given = (start_of at-pairs).requires in (
       given.0,
       (
         given.1.0,
@@ -131,12 +131,12 @@ returns c =
     let m = v.m.now in
     let out = v.out.now in
     let masks-are = masks_alike 3 0 _ _ with.0 in
-    let body_is = at-behind.seal-behind.ensures.0 out at-pairs.planned-pairs.ensures.0 (omega (arith, start.pre.1.1.1.1)) ∙ ap (λ (j : Masks). lay 0 (body E j m) out) masks-are in
+    let body_is = at-behind.seal-behind.ensures.0 out at-pairs.planned-pairs.ensures.0 (omega (arith, start.requires.1.1.1.1)) ∙ ap (λ (j : Masks). lay 0 (body E j m) out) masks-are in
     let te-is = at-behind.seal-behind.ensures.1.0 ∙ ap (λ (j : Masks). te E j m) masks-are in (
       at_tag.put-tag.ensures
           ∙ ap₂ (λ (x b : List ℕ). lay (length m) (take v.t x) b) (ap₂ xor te-is with.1.0) body_is
-          ∙ tagged E e k (otr-masks E e v.q f v.n.now v.a.now v.t long start.pre.1.1.0.1.0) (added E v.q f v.n.now v.a.now v.t)
-          (length-added E e v.q f v.n.now v.a.now v.t long) v.t start.pre.1.1.0.1.1 m out start.pre.1.1.1.1,
+          ∙ tagged E e k (otr-masks E e v.q f v.n.now v.a.now v.t long start.requires.1.1.0.1.0) (added E v.q f v.n.now v.a.now v.t)
+          (length-added E e v.q f v.n.now v.a.now v.t long) v.t start.requires.1.1.0.1.1 m out start.requires.1.1.1.1,
       runs_are at-te,
     )
 

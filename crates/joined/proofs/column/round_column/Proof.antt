@@ -11,8 +11,8 @@ use Rattle.joined.proofs.column.round_column.Tie as tie
 returns : tie.Need-returns
 returns c =
     let v = c.before.before.args in
-    let column : c.looked_up.result ≡ xor (mixed_column (sub_word v.t4)) (little 4 c.before.key_word.result) = c.looked_up.ensures in
-    column ∙ ap (xor (mixed_column (sub_word v.t4))) c.before.key_word.ensures
+    let column : c.looked_up.result ≡ xor (mixed_column (sub_word v.a)) (little 4 c.before.key_word.result) = c.looked_up.ensures in
+    column ∙ ap (xor (mixed_column (sub_word v.a))) c.before.key_word.ensures
 
 pub round_column_spec : {M : Type 1} → statement M
 round_column_spec =

@@ -47,8 +47,8 @@ add-ran c =
         arith,
         runs_are at_open,
         length-found_from_inputs (cipher_of v.t4) v.t4.zero (edition_of v.edition v.form) v.nonce.now v.ad.now v.tag v.sealed.now,
-        start.pre.1.1.1.1.1,
-        start.good,
+        start.requires.1.1.1.1.1,
+        start.ranges,
       );
     }
 
@@ -65,10 +65,10 @@ allowed c r h =
     let p = v.t4 in
     let f = edition_of v.edition v.form in
     let n = length v.sealed.now - v.tag in
-    let within = start.pre.1.1.0 in (
+    let within = start.requires.1.1.0 in (
       found c,
       otr_opens (cipher_of p) (is_cipher p.rounds p.words) p.zero f v.nonce.now v.ad.now v.tag (length-ta p.rounds p.words p.zero f v.ad.now)
-          within.1.0 within.1.1 v.sealed.now start.pre.1.1.1.0,
+          within.1.0 within.1.1 v.sealed.now start.requires.1.1.1.0,
       h ∙ ap (λ (k : ℕ). opened_as n (v.before + k) (found c)) (runs_are c),
       c.«open».ensures.1.0,
     )

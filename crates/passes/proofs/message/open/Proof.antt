@@ -133,11 +133,11 @@ returns c =
     let laid-is = at-pairs.pairs.ensures.0 (swapped k) exchanged in (
       at_rest.open-rest.ensures.0
           ∙ ap (lay (32 * n) (unending E (ltb (32 * n + 16) (length m)) L R (drop (32 * n) m))) laid-is
-          ∙ undone_laid E e k s m out n L R hn masks-are.1 masks-are.0 start.pre.1.1,
+          ∙ undone_laid E e k s m out n L R hn masks-are.1 masks-are.0 start.requires.1.1,
       (
         at-te.te.ensures.0
             ∙ ap (λ (x : List ℕ). E (xor (final k (ltb (last_length (ltb 16 (length m - 32 * n)) (length m - 32 * n)) 16) (base (ltb 16 (length m - 32 * n)) L R)) x)) at-te.before.xor.ensures
-            ∙ te-opened E e k s m out n L R hn masks-are.1 masks-are.0 start.pre.1.1
+            ∙ te-opened E e k s m out n L R hn masks-are.1 masks-are.0 start.requires.1.1
             at_sum.sum.result at_rest.open-rest.result.block (at_sum.sum.ensures ∙ ap (sum n) laid-is) at_rest.open-rest.ensures.1.0,
         runs_are at-te ∙ sym (length-undone_inputs E k m),
       ),

@@ -31,7 +31,7 @@ pairs-requires : tie.Need-pairs-requires
 pairs-requires c κs =
     let at_count = c.before.before.before.before.before.before in
     let start = start_of at_count in
-    (start.pre.0, (start.pre.1.0, (within at_count, omega (arith, within at_count, start.pre.1.1))))
+    (start.requires.0, (start.requires.1.0, (within at_count, omega (arith, within at_count, start.requires.1.1))))
 
 abbrev count_of : tie.After-pairs → tie.After-pairs-of
 count_of c = c.before.before.before.before.before.before.before
@@ -53,7 +53,7 @@ seal-behind-requires c κs =
     let k = masks-of start in
     let hn = at_count.pairs_of.ensures in
     let masks-are = at-pairs.pairs.ensures.1.0 k (carries at-pairs) in
-    (start.pre.0, (start.pre.1.0, ((masks-are.0 ∙ ap k.left hn, masks-are.1 ∙ ap k.right hn), omega (arith, start.pre.1.1, at-pairs.pairs.auto))))
+    (start.requires.0, (start.requires.1.0, ((masks-are.0 ∙ ap k.left hn, masks-are.1 ∙ ap k.right hn), omega (arith, start.requires.1.1, at-pairs.pairs.auto))))
 
 runs_are : (c : tie.After-seal-behind)
     → c.before.before.before.before.before.before.pairs.result.runs + c.seal-behind.result.runs
@@ -73,7 +73,7 @@ add-runs c =
     let at-behind = c.before.before.before.before.before in
     let start = start_of (count_of at-behind.before.before.before.before.before.before) in
     let v = start.args in
-    record { fits = omega (arith, runs_are at-behind, length-sealed_inputs (cipher v.nr v.w.now) (masks-of start) v.m.now, start.good) }
+    record { fits = omega (arith, runs_are at-behind, length-sealed_inputs (cipher v.nr v.w.now) (masks-of start) v.m.now, start.ranges) }
 
 returns : tie.Need-returns
 returns c =
@@ -86,7 +86,7 @@ returns c =
     let k = masks-of start in
     let out = v.out.now in
     let laid = at-pairs.pairs.ensures.0 k (carries at-pairs) ∙ ap (λ (i : ℕ). lay 0 (pairs E k i v.m.now) out) at_count.pairs_of.ensures in
-    (at-behind.seal-behind.ensures.0 out laid start.pre.1.1, (at-behind.seal-behind.ensures.1.0, runs_are at-behind))
+    (at-behind.seal-behind.ensures.0 out laid start.requires.1.1, (at-behind.seal-behind.ensures.1.0, runs_are at-behind))
 
 pub seal-spec : {M : Type 1} → statement M
 seal-spec =

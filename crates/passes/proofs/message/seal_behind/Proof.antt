@@ -48,7 +48,7 @@ seal-rest-requires : tie.Need-seal-rest-requires
 seal-rest-requires c κs =
     let at_count = c.before.before in
     let start = start_of at_count in
-    (start.pre.0, (start.pre.1.0, ((within at_count).0, ((within at_count).1, start.pre.1.1.1))))
+    (start.requires.0, (start.requires.1.0, ((within at_count).0, ((within at_count).1, start.requires.1.1.1))))
 
 abbrev count_of : tie.After-e → tie.After-pairs-of
 count_of c = c.before.before.before.before.before.before
@@ -59,7 +59,7 @@ sub-te c = (within (count_of c)).0
 te-requires : tie.Need-te-requires
 te-requires c κs =
     let start = start_of (count_of c.before) in
-    (start.pre.0, start.pre.1.0)
+    (start.requires.0, start.requires.1.0)
 
 -- once TE is ciphered
 abbrev rest_of : tie.After-te → tie.After-seal-rest
@@ -101,8 +101,8 @@ returns c =
     let hn = at_count.pairs_of.ensures in
     let L = v.l in
     let R = v.r in
-    let h_l : L ≡ k.left n = start.pre.1.1.0.0 ∙ sym (ap k.left hn) in
-    let h_r : R ≡ k.right n = start.pre.1.1.0.1 ∙ sym (ap k.right hn) in (
+    let h_l : L ≡ k.left n = start.requires.1.1.0.0 ∙ sym (ap k.left hn) in
+    let h_r : R ≡ k.right n = start.requires.1.1.0.1 ∙ sym (ap k.right hn) in (
       λ o held fits.
           at_rest.seal-rest.ensures.0
           ∙ ap (lay (32 * n) (ending E (ltb (32 * n + 16) (length m)) L R (drop (32 * n) m))) (held ∙ ap (λ (i : ℕ). lay 0 (pairs E k i m) o) (sym hn))
@@ -110,7 +110,7 @@ returns c =
       (
         at-te.te.ensures.0
             ∙ ap (λ (x : List ℕ). E (xor (final k (ltb (last_length (ltb 16 (length m - 32 * n)) (length m - 32 * n)) 16) (base (ltb 16 (length m - 32 * n)) L R)) x)) at-xor.xor.ensures
-            ∙ te-sealed E e k s m v.out.now n L R hn h_l h_r start.pre.1.1.1
+            ∙ te-sealed E e k s m v.out.now n L R hn h_l h_r start.requires.1.1.1
             at_sum.sum.result at_rest.seal-rest.result.block at_sum.sum.ensures at_rest.seal-rest.ensures.1.0,
         omega (arith, length-pairs_inputs E k (pairs_of (length m)) m, runs_are at-te, length-sealed_inputs E k m),
       ),

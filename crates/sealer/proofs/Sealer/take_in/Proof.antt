@@ -69,10 +69,10 @@ feed-requires c κs =
     let most = keeps_most v.t1.fed in (
       c.before.before.before.before.joined.ensures,
       (
-        start.pre.0,
+        start.requires.0,
         (
           omega (arith, held-is at_count, most),
-          (at_count.pairs_of.ensures, (omega (arith, c.before.before.before.before.before.if1.false), omega (arith, due-is at_count, start.pre.1.1))),
+          (at_count.pairs_of.ensures, (omega (arith, c.before.before.before.before.before.if1.false), omega (arith, due-is at_count, start.requires.1.1))),
         ),
       ),
     )
@@ -83,7 +83,7 @@ mul-t14 c =
     let start = start_of at_count in
     let v = start.args in
     let b = keeps v.t1.fed + length v.part.now in
-    record { fits = omega (arith, due-is at_count, pairs-within b, keeps_most v.t1.fed, start.pre.1.0) }
+    record { fits = omega (arith, due-is at_count, pairs-within b, keeps_most v.t1.fed, start.requires.1.0) }
 
 returns-2 : tie.Need-returns-2
 unfolding given
