@@ -21,37 +21,37 @@ abbrev E : tie.Start → List ℕ → List ℕ
 E c = cipher c.args.nr c.args.w.now
 
 -- once the data pass is done
-abbrev start_of : tie.After-ta → tie.Start
+abbrev start_of : tie.After-ta-data → tie.Start
 start_of c = c.before.before.before.before.before
 
-nonce-is : (c : tie.After-ta)
-    → c.before.encrypt.result ≡ E (start_of c) (nonce_block (edition_of (start_of c).args.edition (start_of c).args.form) (start_of c).args.t (start_of c).args.n.now)
-nonce-is c = c.before.encrypt.ensures ∙ ap (E (start_of c)) (c.before.before.nonce-block.ensures (start_of c).args.form)
+nonce-is : (c : tie.After-ta-data)
+    → c.before.encrypt-v.result ≡ E (start_of c) (nonce_block (edition_of (start_of c).args.edition (start_of c).args.form) (start_of c).args.t (start_of c).args.n.now)
+nonce-is c = c.before.encrypt-v.ensures ∙ ap (E (start_of c)) (c.before.before.nonce_block.ensures (start_of c).args.form)
 
 -- the nonce block is one run more
-runs_are : (c : tie.After-ta) → 1 + c.ta.result.runs ≡ length (call_inputs (E (start_of c)) (start_of c).args.q (edition_of (start_of c).args.edition (start_of c).args.form) (start_of c).args.n.now (start_of c).args.a.now (start_of c).args.t)
-runs_are c = omega (arith, c.ta.ensures.1)
+runs_are : (c : tie.After-ta-data) → 1 + c.ta-data.result.runs ≡ length (call_inputs (E (start_of c)) (start_of c).args.q (edition_of (start_of c).args.edition (start_of c).args.form) (start_of c).args.n.now (start_of c).args.a.now (start_of c).args.t)
+runs_are c = omega (arith, c.ta-data.ensures.1)
 
-add-runs : tie.Need-overflow-add-runs
+add-runs : tie.Need-overflow_add-runs
 add-runs c =
     let at-data = c.before.before in
     let start = start_of at-data in
     let v = start.args in
     record { fits = omega (arith, runs_are at-data, length-call_inputs (E start) v.q (edition_of v.edition v.form) v.n.now v.a.now v.t, start.ranges) }
 
-returns : tie.Need-returns
+returns : tie.Need-returns-then-form_in-eq0
 returns c =
     let at-data = c.before.before.before.before in
     let start = start_of at-data in
     let v = start.args in
     let f = edition_of v.edition v.form in
     let a = data_tag (E start) v.q f v.a.now in
-    let form-is = sym c.before.form_in.ensures ∙ is_parallel c.before.form_in.result c.if1.true in (
+    let form-is = sym c.before.form_in.ensures ∙ is_parallel c.before.form_in.result c.if-form_in-eq0.true in (
       nonce-is at-data ∙ sym (ap (λ (g : Form). first_mask g (E start (nonce_block f v.t v.n.now)) a) form-is),
-      (at-data.ta.ensures.0 ∙ sym (ap (λ (g : Form). into_tag g a) form-is), runs_are at-data),
+      (at-data.ta-data.ensures.0 ∙ sym (ap (λ (g : Form). into_tag g a) form-is), runs_are at-data),
     )
 
-returns-2 : tie.Need-returns-2
+returns-2 : tie.Need-returns
 returns-2 c =
     let at-data = c.before.before.before.before.before.before.before in
     let start = start_of at-data in
@@ -59,13 +59,13 @@ returns-2 c =
     let f = edition_of v.edition v.form in
     let a = data_tag (E start) v.q f v.a.now in
     let at-form = c.before.before.before.before in
-    let form-is = sym at-form.form_in.ensures ∙ is_serial at-form.form_in.result c.before.before.before.if1.false in (
+    let form-is = sym at-form.form_in.ensures ∙ is_serial at-form.form_in.result c.before.before.before.if-form_in-eq0.false in (
       c.before.double.ensures
-          ∙ ap double (c.before.before.xor.ensures ∙ ap₂ xor (nonce-is at-data) at-data.ta.ensures.0)
+          ∙ ap double (c.before.before.xor.ensures ∙ ap₂ xor (nonce-is at-data) at-data.ta-data.ensures.0)
           ∙ sym (ap (λ (g : Form). first_mask g (E start (nonce_block f v.t v.n.now)) a) form-is),
       (c.zeros.ensures ∙ sym (ap (λ (g : Form). into_tag g a) form-is), runs_are at-data),
     )
 
-pub seals-with-spec : {M : Type 1} → statement M
-seals-with-spec =
+pub seals_with_spec : {M : Type 1} → statement M
+seals_with_spec =
     tie.close (tie.spec (λ c κs. search rules) (λ c κs. search rules) (λ c κs. search rules) add-runs (λ c κs. search rules) returns (λ c κs. search rules) (λ c κs. search rules) (λ c κs. search rules) returns-2)

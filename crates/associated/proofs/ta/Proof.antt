@@ -20,22 +20,22 @@ module _ (E : List ℕ → List ℕ) (q a : List ℕ) (named f : Edition) (is : 
     h.1 ∙ sym (ap (λ (g : Edition). length (ta_inputs E (data_pass E q g) a)) is),
   )
 
-returns : tie.Need-returns
+returns : tie.Need-returns-then-edition-eq1
 returns c =
     let v = c.before.before.before.args in
-    of-named (cipher v.nr v.w.now) v.q v.a.now (edition_of v.edition v.form) _ (is_first v.edition v.form c.before.if1.true) _ _ c.ta.ensures
+    of-named (cipher v.nr v.w.now) v.q v.a.now (edition_of v.edition v.form) _ (is_first v.edition v.form c.before.if-edition-eq1.true) _ _ c.ta.ensures
 
-returns-2 : tie.Need-returns-2
+returns-2 : tie.Need-returns-then-form-eq0
 returns-2 c =
     let v = c.before.before.before.before.args in
     of-named (cipher v.nr v.w.now) v.q v.a.now (edition_of v.edition v.form) _
-    (is_third v.edition v.form c.before.before.if1.false ∙ ap v3 (is_parallel v.form c.before.if2.true)) _ _ c.ta2.ensures
+    (is_third v.edition v.form c.before.before.if-edition-eq1.false ∙ ap v3 (is_parallel v.form c.before.if-form-eq0.true)) _ _ c.ta-then-form-eq0.ensures
 
-returns-3 : tie.Need-returns-3
+returns-3 : tie.Need-returns
 returns-3 c =
     let v = c.before.before.before.before.args in
     of-named (cipher v.nr v.w.now) v.q v.a.now (edition_of v.edition v.form) _
-    (is_third v.edition v.form c.before.before.if1.false ∙ ap v3 (is_serial v.form c.before.if2.false)) _ _ c.ta3.ensures
+    (is_third v.edition v.form c.before.before.if-edition-eq1.false ∙ ap v3 (is_serial v.form c.before.if-form-eq0.false)) _ _ c.ta-2.ensures
 
-pub ta-spec : {M : Type 1} → statement M
-ta-spec = tie.close (tie.spec (λ c κs. search rules) returns (λ c κs. search rules) returns-2 (λ c κs. search rules) returns-3)
+pub ta_spec : {M : Type 1} → statement M
+ta_spec = tie.close (tie.spec (λ c κs. search rules) returns (λ c κs. search rules) returns-2 (λ c κs. search rules) returns-3)

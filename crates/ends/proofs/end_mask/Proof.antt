@@ -10,18 +10,18 @@ use borrow.Author.Rules.{rules}
 use Rattle.ends.proofs.end_mask.Statement.{statement}
 use Rattle.ends.proofs.end_mask.Tie as tie
 
-returns : tie.Need-returns
+returns : tie.Need-returns-then-n-gt16
 returns c =
     let v = c.before.before.args in
-    c.final-mask.ensures
-    ∙ sym (ap (λ (t : Bool). final (masks_of (edition_of v.edition 0) v.u) (ltb (last_length t v.n) 16) (base t v.l v.r)) (lt-ltb 16 v.n c.before.if1.true))
+    c.final_mask.ensures
+    ∙ sym (ap (λ (t : Bool). final (masks_of (edition_of v.edition 0) v.u) (ltb (last_length t v.n) 16) (base t v.l v.r)) (lt-ltb 16 v.n c.before.if-n-gt16.true))
 
-returns-2 : tie.Need-returns-2
+returns-2 : tie.Need-returns
 returns-2 c =
     let v = c.before.before.args in
-    c.final-mask2.ensures
-    ∙ sym (ap (λ (t : Bool). final (masks_of (edition_of v.edition 0) v.u) (ltb (last_length t v.n) 16) (base t v.l v.r)) (le-ltb 16 v.n c.before.if1.false))
+    c.final_mask-2.ensures
+    ∙ sym (ap (λ (t : Bool). final (masks_of (edition_of v.edition 0) v.u) (ltb (last_length t v.n) 16) (base t v.l v.r)) (le-ltb 16 v.n c.before.if-n-gt16.false))
 
-pub end-mask-spec : {M : Type 1} → statement M
-end-mask-spec =
+pub end_mask_spec : {M : Type 1} → statement M
+end_mask_spec =
     tie.close (tie.spec (λ c. search rules) (λ c κs. search rules) returns (λ c κs. search rules) returns-2)

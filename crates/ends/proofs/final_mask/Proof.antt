@@ -9,15 +9,15 @@ use borrow.Author.Rules.{rules}
 use Rattle.ends.proofs.final_mask.Statement.{statement}
 use Rattle.ends.proofs.final_mask.Tie as tie
 
-returns : tie.Need-returns
+returns : tie.Need-returns-then-edition-eq1
 returns c =
     let v = c.before.before.args in
-    c.final-of-first.ensures ∙ sym (ap (λ (f : Edition). final (masks_of f v.u) (ltb v.n 16) v.b) (is_first v.edition 0 c.before.if1.true))
+    c.final_of_first.ensures ∙ sym (ap (λ (f : Edition). final (masks_of f v.u) (ltb v.n 16) v.b) (is_first v.edition 0 c.before.if-edition-eq1.true))
 
-returns-2 : tie.Need-returns-2
+returns-2 : tie.Need-returns
 returns-2 c =
     let v = c.before.before.args in
-    c.final-of-third.ensures v.u ∙ sym (ap (λ (f : Edition). final (masks_of f v.u) (ltb v.n 16) v.b) (is_third v.edition 0 c.before.if1.false))
+    c.final_of_third.ensures v.u ∙ sym (ap (λ (f : Edition). final (masks_of f v.u) (ltb v.n 16) v.b) (is_third v.edition 0 c.before.if-edition-eq1.false))
 
-pub final-mask-spec : {M : Type 1} → statement M
-final-mask-spec = tie.close (tie.spec (λ c κs. search rules) returns (λ c κs. search rules) returns-2)
+pub final_mask_spec : {M : Type 1} → statement M
+final_mask_spec = tie.close (tie.spec (λ c κs. search rules) returns (λ c κs. search rules) returns-2)

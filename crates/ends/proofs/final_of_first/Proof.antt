@@ -11,17 +11,17 @@ use borrow.Author.Rules.{rules}
 use Rattle.ends.proofs.final_of_first.Statement.{statement}
 use Rattle.ends.proofs.final_of_first.Tie as tie
 
-returns : tie.Need-returns
+returns : tie.Need-returns-then-n-ge16
 returns c =
     let v = c.before.before.before.args in
     c.xor.ensures
-    ∙ ap (λ (x : List ℕ). xor x v.d) c.before.before.triple.ensures
+    ∙ ap (λ (x : List ℕ). xor x v.d) c.before.before.triple-x.ensures
     ∙ sym (ap (λ t. final (first v.d) t v.b) (le-ltb v.n 16 (omega arith)))
 
-returns-2 : tie.Need-returns-2
+returns-2 : tie.Need-returns
 returns-2 c =
     let v = c.before.before.args in
-    c.before.triple.ensures ∙ sym (ap (λ t. final (first v.d) t v.b) (lt-ltb v.n 16 (omega arith)))
+    c.before.triple-x.ensures ∙ sym (ap (λ t. final (first v.d) t v.b) (lt-ltb v.n 16 (omega arith)))
 
-pub final-of-first-spec : {M : Type 1} → statement M
-final-of-first-spec = tie.close (tie.spec (λ c κs. search rules) (λ c κs. search rules) returns returns-2)
+pub final_of_first_spec : {M : Type 1} → statement M
+final_of_first_spec = tie.close (tie.spec (λ c κs. search rules) (λ c κs. search rules) returns returns-2)

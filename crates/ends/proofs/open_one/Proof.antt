@@ -7,8 +7,8 @@ use Rattle.ends.proofs.open_one.Tie as tie
 
 returns : tie.Need-returns
 returns c =
-    let one = c.before.before.before.before.one.ensures in
+    let one = c.before.before.before.before.one-ran.ensures in
     (one.0, (c.pad.ensures ∙ ap pad one.1.0, one.1.1))
 
-pub open-one-spec : {M : Type 1} → statement M
-open-one-spec = tie.close (tie.spec (λ c. search rules) (λ c κs. search rules) (λ c κs. search rules) (λ c. search rules) returns)
+pub open_one_spec : {M : Type 1} → statement M
+open_one_spec = tie.close (tie.spec (λ c. search rules) (λ c κs. search rules) (λ c κs. search rules) (λ c. search rules) returns)

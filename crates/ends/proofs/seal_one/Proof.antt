@@ -18,8 +18,8 @@ returns c =
     let n = length m - v.at in
     let read_is = c.before.read.ensures ∙ ap filled (rest_whole m v.at) in
     let padded-is = c.pad.ensures ∙ ap (λ (l : List ℕ). pad (take n l)) read_is ∙ ap pad (part_filled (drop v.at m) n (length-drop v.at m)) in
-    (at_one.one.ensures.0, (padded-is, at_one.one.ensures.1.1))
+    (at_one.one-ran.ensures.0, (padded-is, at_one.one-ran.ensures.1.1))
 
-pub seal-one-spec : {M : Type 1} → statement M
-seal-one-spec =
+pub seal_one_spec : {M : Type 1} → statement M
+seal_one_spec =
     tie.close (tie.spec (λ c. search rules) (λ c κs. search rules) (λ c κs. search rules) (λ c κs. search rules) (λ c. search rules) returns)

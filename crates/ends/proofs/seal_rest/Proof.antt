@@ -28,22 +28,22 @@ runs c t =
     let v = c.args in
     length (ending_inputs (cipher v.nr v.w.now) t v.l v.r (drop v.at v.m.now))
 
-returns : tie.Need-returns
+returns : tie.Need-returns-then-at-m
 returns c =
     let at_call = c.before.before in
     let branch = at_call.before.before in
     let start = branch.before.before.before in
     let v = start.args in
-    picked true _ (lt-ltb (v.at + 16) (length v.m.now) branch.if1.true) (written start) (summed start) (runs start) _ _ _ at_call.seal-two.ensures
+    picked true _ (lt-ltb (v.at + 16) (length v.m.now) branch.if-at-m.true) (written start) (summed start) (runs start) _ _ _ at_call.seal_two.ensures
 
-returns-2 : tie.Need-returns-2
+returns-2 : tie.Need-returns
 returns-2 c =
     let at_call = c.before.before in
     let branch = at_call.before.before in
     let start = branch.before.before.before in
     let v = start.args in
-    picked false _ (le-ltb (v.at + 16) (length v.m.now) branch.if1.false) (written start) (summed start) (runs start) _ _ _ at_call.seal-one.ensures
+    picked false _ (le-ltb (v.at + 16) (length v.m.now) branch.if-at-m.false) (written start) (summed start) (runs start) _ _ _ at_call.seal_one.ensures
 
-pub seal-rest-spec : {M : Type 1} → statement M
-seal-rest-spec =
+pub seal_rest_spec : {M : Type 1} → statement M
+seal_rest_spec =
     tie.close (tie.spec (λ c. search rules) (λ c κs. search rules) (λ c. search rules) returns (λ c κs. search rules) (λ c. search rules) returns-2)

@@ -27,17 +27,17 @@ returns c =
     let x = drop v.at v.m.now in
     let y = drop 16 x in
     let y_long = second_long v.m.now v.at in
-    let p-is = at-encrypt.before.before.read-block.ensures in
-    let z_is : at-encrypt.encrypt.result ≡ z E v.l x = at-encrypt.encrypt.ensures ∙ ap E (at-encrypt.before.xor.ensures ∙ ap (xor v.l) p-is) in
+    let p-is = at-encrypt.before.before.read_block-p.ensures in
+    let z_is : at-encrypt.encrypt-z.result ≡ z E v.l x = at-encrypt.encrypt-z.ensures ∙ ap E (at-encrypt.before.xor.ensures ∙ ap (xor v.l) p-is) in
     let y-is = at-pad.before.before.read.ensures ∙ ap filled (second_whole v.m.now v.at) in
-    let last_is : take n at-pad.before.xor2.result ≡ last E v.l x =
-    ap (take n) (at-pad.before.xor2.ensures ∙ ap₂ xor y-is z_is) ∙ part_xor y (z E v.l x) n y_long in
-    let padded-is : at-pad.pad.result ≡ pad (last E v.l x) = at-pad.pad.ensures ∙ ap pad last_is in
-    let first_is = at-half.half.ensures.0 ∙ ap₂ (half E v.r) padded-is p-is in (
+    let last_is : take n at-pad.before.xor-last.result ≡ last E v.l x =
+    ap (take n) (at-pad.before.xor-last.ensures ∙ ap₂ xor y-is z_is) ∙ part_xor y (z E v.l x) n y_long in
+    let padded-is : at-pad.pad-padded.result ≡ pad (last E v.l x) = at-pad.pad-padded.ensures ∙ ap pad last_is in
+    let first_is = at-half.half-before.ensures.0 ∙ ap₂ (half E v.r) padded-is p-is in (
       at-put.put_two.ensures ∙ ap (λ (l : List ℕ). lay v.at l v.out.now) (ap₂ ◌++◌ first_is last_is),
-      (c.before.xor3.ensures ∙ ap₂ xor z_is padded-is, ap (λ (k : ℕ). 1 + k) at-half.half.ensures.1),
+      (c.before.xor-2.ensures ∙ ap₂ xor z_is padded-is, ap (λ (k : ℕ). 1 + k) at-half.half-before.ensures.1),
     )
 
-pub seal-two-spec : {M : Type 1} → statement M
-seal-two-spec =
+pub seal_two_spec : {M : Type 1} → statement M
+seal_two_spec =
     tie.close (tie.spec (λ c. search rules) (λ c. search rules) (λ c κs. search rules) (λ c κs. search rules) (λ c κs. search rules) (λ c. search rules) (λ c κs. search rules) (λ c κs. search rules) (λ c κs. search rules) (λ c κs. search rules) (λ c κs. search rules) (λ c κs. search rules) (λ c. search rules) (λ c. search rules) returns)

@@ -8,18 +8,18 @@ use borrow.Author.Rules.{rules}
 use Rattle.associated.proofs.data.first_q.Statement.{statement}
 use Rattle.associated.proofs.data.first_q.Tie as tie
 
-returns : tie.Need-returns
+returns : tie.Need-returns-then-needed
 returns c =
     let v = c.before.before.before.args in
     let E = cipher v.nr v.w.now in
-    let yes = c.before.before.if1.true in
+    let yes = c.before.before.if-needed.true in
     (c.encrypt.ensures ∙ ap E c.before.zeros.ensures ∙ sym (ap (first_q E) yes), sym (ap (λ (b : Bool). length (q_inputs b)) yes))
 
-returns-2 : tie.Need-returns-2
+returns-2 : tie.Need-returns
 returns-2 c =
     let v = c.before.before.args in
-    let no-need = c.before.if1.false in
-    (c.zeros2.ensures ∙ sym (ap (first_q (cipher v.nr v.w.now)) no-need), sym (ap (λ (b : Bool). length (q_inputs b)) no-need))
+    let no-need = c.before.if-needed.false in
+    (c.zeros-2.ensures ∙ sym (ap (first_q (cipher v.nr v.w.now)) no-need), sym (ap (λ (b : Bool). length (q_inputs b)) no-need))
 
-pub first-q-spec : {M : Type 1} → statement M
-first-q-spec = tie.close (tie.spec (λ c κs. search rules) (λ c κs. search rules) returns (λ c κs. search rules) returns-2)
+pub first_q_spec : {M : Type 1} → statement M
+first_q_spec = tie.close (tie.spec (λ c κs. search rules) (λ c κs. search rules) returns (λ c κs. search rules) returns-2)

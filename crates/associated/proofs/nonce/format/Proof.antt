@@ -11,12 +11,12 @@ use borrow.Author.Rules.{rules}
 use Rattle.associated.proofs.nonce.format.Statement.{statement}
 use Rattle.associated.proofs.nonce.format.Tie as tie
 
-add-b : tie.Need-overflow-add-b
-add-b c = record { fits = one_more_fits c.before.before.args.t _ c.zeros.result c.zeros.ensures }
+add-b : tie.Need-overflow_add-b
+add-b c = record { fits = one_more_fits c.before.before.args.t _ c.zeros-b.result c.zeros-b.ensures }
 
 lay-requires : tie.Need-lay-requires
 lay-requires c κs =
-    let long : length c.before.zeros.result ≡ 16 = search rules in
+    let long : length c.before.zeros-b.result ≡ 16 = search rules in
     simp length-set (omega arith)
 
 returns : tie.Need-returns
@@ -26,12 +26,12 @@ returns c =
     let t = start.args.t in
     let n = start.args.nonce.now in
     let j = 15 - length n in
-    let b = set at-zeros.zeros.result 0 (tag_byte t) in
-    let laid : c.before.lay.new.0 ≡ lay (j + 1) n (set b j (get_or b j 0 + 1)) = c.before.lay.ensures in
+    let b = set at-zeros.zeros-b.result 0 (tag_byte t) in
+    let laid : c.before.lay.new.out.0 ≡ lay (j + 1) n (set b j (get_or b j 0 + 1)) = c.before.lay.ensures in
     laid
-    ∙ ap (λ (l : List ℕ). lay (j + 1) n (set l j (get_or l j 0 + 1))) (tag_stored t at-zeros.zeros.result at-zeros.zeros.ensures)
+    ∙ ap (λ (l : List ℕ). lay (j + 1) n (set l j (get_or l j 0 + 1))) (tag_stored t at-zeros.zeros-b.result at-zeros.zeros-b.ensures)
     ∙ formatted t n start.requires.0.1
 
-pub format-spec : {M : Type 1} → statement M
-format-spec =
+pub format_spec : {M : Type 1} → statement M
+format_spec =
     tie.close (tie.spec (λ c. search rules) (λ c κs. search rules) (λ c. search rules) (λ c. search rules) (λ c. search rules) (λ c. search rules) (λ c. search rules) add-b (λ c. search rules) (λ c. search rules) (λ c. search rules) lay-requires returns)

@@ -7,15 +7,15 @@ use borrow.Author.Rules.{rules}
 use Rattle.associated.proofs.nonce.nonce_block.Statement.{statement}
 use Rattle.associated.proofs.nonce.nonce_block.Tie as tie
 
-returns : tie.Need-returns
+returns : tie.Need-returns-then-edition-eq1
 returns c =
     let v = c.before.before.before.args in
-    λ form. c.padded.ensures ∙ sym (ap (λ (f : Edition). nonce_block f v.t v.nonce.now) (is_first v.edition form c.before.if1.true))
+    λ form. c.padded.ensures ∙ sym (ap (λ (f : Edition). nonce_block f v.t v.nonce.now) (is_first v.edition form c.before.if-edition-eq1.true))
 
-returns-2 : tie.Need-returns-2
+returns-2 : tie.Need-returns
 returns-2 c =
     let v = c.before.before.before.args in
-    λ form. c.format.ensures ∙ sym (ap (λ (f : Edition). nonce_block f v.t v.nonce.now) (is_third v.edition form c.before.if1.false))
+    λ form. c.format.ensures ∙ sym (ap (λ (f : Edition). nonce_block f v.t v.nonce.now) (is_third v.edition form c.before.if-edition-eq1.false))
 
-pub nonce-block-spec : {M : Type 1} → statement M
-nonce-block-spec = tie.close (tie.spec (λ c κs. search rules) returns (λ c κs. search rules) returns-2)
+pub nonce_block_spec : {M : Type 1} → statement M
+nonce_block_spec = tie.close (tie.spec (λ c κs. search rules) returns (λ c κs. search rules) returns-2)

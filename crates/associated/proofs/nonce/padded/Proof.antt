@@ -16,5 +16,5 @@ returns c =
     let read_is = at_read.read.ensures ∙ ap filled (take_all (length n) n (omega arith)) in
     c.pad.ensures ∙ ap pad (ap (take (length n)) read_is ∙ take-filled n)
 
-pub padded-spec : {M : Type 1} → statement M
-padded-spec = tie.close (tie.spec (λ c κs. search rules) (λ c κs. search rules) returns)
+pub padded_spec : {M : Type 1} → statement M
+padded_spec = tie.close (tie.spec (λ c κs. search rules) (λ c κs. search rules) returns)

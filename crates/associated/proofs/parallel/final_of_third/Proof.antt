@@ -8,15 +8,15 @@ use borrow.Author.Rules.{rules}
 use Rattle.associated.proofs.parallel.final_of_third.Statement.{statement}
 use Rattle.associated.proofs.parallel.final_of_third.Tie as tie
 
-returns : tie.Need-returns
+returns : tie.Need-returns-then-n-lt16
 returns c =
     let v = c.before.before.args in
     λ f q. c.triple.ensures ∙ sym (ap (λ s. data_final (v3 f) q s v.x) (lt-ltb v.n 16 (omega arith)))
 
-returns-2 : tie.Need-returns-2
+returns-2 : tie.Need-returns
 returns-2 c =
     let v = c.before.before.args in
-    λ f q. c.triple-twice.ensures ∙ sym (ap (λ s. data_final (v3 f) q s v.x) (le-ltb v.n 16 (omega arith)))
+    λ f q. c.triple_twice.ensures ∙ sym (ap (λ s. data_final (v3 f) q s v.x) (le-ltb v.n 16 (omega arith)))
 
-pub final-of-third-spec : {M : Type 1} → statement M
-final-of-third-spec = tie.close (tie.spec (λ c κs. search rules) returns (λ c κs. search rules) returns-2)
+pub final_of_third_spec : {M : Type 1} → statement M
+final_of_third_spec = tie.close (tie.spec (λ c κs. search rules) returns (λ c κs. search rules) returns-2)

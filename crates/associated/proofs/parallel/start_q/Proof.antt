@@ -8,17 +8,17 @@ use borrow.Author.Rules.{rules}
 use Rattle.associated.proofs.parallel.start_q.Statement.{statement}
 use Rattle.associated.proofs.parallel.start_q.Tie as tie
 
-returns : tie.Need-returns
+returns : tie.Need-returns-then-edition-eq1
 returns c =
     let v = c.before.before.before.args in
-    c.double2.ensures
-    ∙ ap double c.before.double.ensures
-    ∙ sym (ap (λ (f : Edition). start_q f v.q) (is_first v.edition 0 c.before.before.if1.true))
+    c.double.ensures
+    ∙ ap double c.before.double-two.ensures
+    ∙ sym (ap (λ (f : Edition). start_q f v.q) (is_first v.edition 0 c.before.before.if-edition-eq1.true))
 
-returns-2 : tie.Need-returns-2
+returns-2 : tie.Need-returns
 returns-2 c =
     let v = c.before.args in
-    sym (ap (λ (f : Edition). start_q f v.q) (is_third v.edition 0 c.if1.false))
+    sym (ap (λ (f : Edition). start_q f v.q) (is_third v.edition 0 c.if-edition-eq1.false))
 
-pub start-q-spec : {M : Type 1} → statement M
-start-q-spec = tie.close (tie.spec (λ c κs. search rules) (λ c κs. search rules) returns returns-2)
+pub start_q_spec : {M : Type 1} → statement M
+start_q_spec = tie.close (tie.spec (λ c κs. search rules) (λ c κs. search rules) returns returns-2)

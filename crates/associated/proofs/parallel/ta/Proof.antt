@@ -21,24 +21,24 @@ ta-requires c κs =
     let at_count = at-start.before in
     let start = at_count.before.before in
     let v = start.args in
-    let runs_are = at_sum.data-sum.ensures.1 ∙ length-sum_inputs at-start.start-q.result at_count.before_last.result v.a.now in
-    (start.requires.0, (start.requires.1, (at_count.before_last.ensures, omega (arith, runs_are))))
+    let runs_are = at_sum.data_sum-front.ensures.1 ∙ length-sum_inputs at-start.start_q-first.result at_count.before_last-n.result v.a.now in
+    (start.requires.0, (start.requires.1, (at_count.before_last-n.ensures, omega (arith, runs_are))))
 
 returns : tie.Need-returns
 returns c =
     let at_sum = c.before.before.before.before in
     let at-start = at_sum.before in
-    let n = at-start.before.before_last.result in
+    let n = at-start.before.before_last-n.result in
     let v = at-start.before.before.before.args in
     let E = cipher v.nr v.w.now in
     let f = edition_of v.edition 0 in
-    let sum = at_sum.data-sum.ensures in
-    let start_is = at-start.start-q.ensures in
+    let sum = at_sum.data_sum-front.ensures in
+    let start_is = at-start.start_q-first.ensures in
     let d = parallel_pass E v.q f in
-    let mask_is = c.before.data-mask.ensures ∙ ap (data_final f v.q (ltb (length v.a.now - 16 * n) 16)) (sum.0.1 ∙ ap (doubles n) start_is) in
+    let mask_is = c.before.data_mask-mask.ensures ∙ ap (data_final f v.q (ltb (length v.a.now - 16 * n) 16)) (sum.0.1 ∙ ap (doubles n) start_is) in
     let xi-is = sum.0.0 ∙ ap (λ (q : List ℕ). data_sum E q n v.a.now) start_is in
     (c.ta.ensures.0 d mask_is xi-is, c.ta.ensures.1 d (sum.1 ∙ ap (λ (q : List ℕ). length (sum_inputs q n v.a.now)) start_is))
 
-pub ta-spec : {M : Type 1} → statement M
-ta-spec =
+pub ta_spec : {M : Type 1} → statement M
+ta_spec =
     tie.close (tie.spec (λ c κs. search rules) (λ c κs. search rules) (λ c κs. search rules) (λ c. search rules) (λ c. search rules) (λ c κs. search rules) ta-requires returns)
