@@ -21,9 +21,9 @@ due : (c : tie.Start) → Due c.args.state c.args.held c.args.n c.args.part.now 
 due c =
     let given = c.requires.1.1 in
     record {
-      kept = search (rules, c.well-formed);
-      left = search (rules, c.well-formed);
-      right = search (rules, c.well-formed);
+      kept = search (rules, c.well_formed);
+      left = search (rules, c.well_formed);
+      right = search (rules, c.well_formed);
       within = given.0;
       count = given.1.0;
       some = given.1.1.0;
@@ -42,30 +42,30 @@ behind c =
     let v = c.args in
     tail_most (cipher v.nr v.w.now) (is_cipher v.nr v.w.now) v.state v.held v.n v.part.now v.out.now (due c)
 
-first-pair-requires : tie.Need-first-pair-requires
+first-pair-requires : tie.Need-first_pair-one-requires
 first-pair-requires c κs =
     let start = c.before.before.before in
     let given = start.requires in
     (given.0, (given.1.0, (given.1.1.0, ((behind start).2, omega (arith, given.1.1.1.1)))))
 
-sub-later-pairs : tie.Need-overflow-sub-later-pairs
+sub-later-pairs : tie.Need-slice_bounds-later_pairs-count
 sub-later-pairs c =
     let start = c.before.before.before.before.before.before in
     omega (arith, behind start)
 
-part-later-pairs-start : tie.Need-slice-bounds-later-pairs-start
+part-later-pairs-start : tie.Need-slice_bounds-later_pairs-start
 part-later-pairs-start c =
     let start = c.before.before.before.before.before.before in
     omega (arith, behind start)
 
-later-pairs-requires : tie.Need-later-pairs-requires
+later-pairs-requires : tie.Need-later_pairs-requires
 later-pairs-requires c κs =
-    let first = c.before.before.before.before.first-pair in
+    let first = c.before.before.before.before.first_pair-one in
     let start = c.before.before.before.before.before.before.before.before in
     let v = start.args in
     let given = start.requires in
     let part-long = ap length (rest_whole v.part.now (32 - v.held)) ∙ length-drop (32 - v.held) v.part.now in
-    let out_long = ap length (rest_whole first.new.1.1.1.1.1.1.0 32) ∙ length-drop 32 first.new.1.1.1.1.1.1.0 in (
+    let out_long = ap length (rest_whole first.new.out 32) ∙ length-drop 32 first.new.out in (
       given.0,
       (
         given.1.0,
@@ -78,14 +78,14 @@ later-pairs-requires c κs =
 
 returns : tie.Need-returns
 returns c =
-    let later = c.before.before.later-pairs in
-    let first = c.before.before.before.before.before.before.before.first-pair in
+    let later = c.before.before.later_pairs in
+    let first = c.before.before.before.before.before.before.before.first_pair-one in
     let start = c.before.before.before.before.before.before.before.before.before.before.before in
     let v = start.args in
     let s = v.state in
     let E = cipher v.nr v.w.now in
     let e = is_cipher v.nr v.w.now in
-    let o = first.new.1.1.1.1.1.1.0 in
+    let o = first.new.out in
     let tail = take (length v.part.now - (32 - v.held)) (drop (32 - v.held) v.part.now) in
     let tail_is : tail ≡ drop (32 - v.held) v.part.now = rest_whole v.part.now (32 - v.held) in
     let L = first.result.left in
@@ -106,5 +106,5 @@ returns c =
       ),
     )
 
-pub feed-spec : {M : Type 1} → statement M
-feed-spec = tie.close (tie.spec first-pair-requires (λ c. search rules) sub-later-pairs part-later-pairs-start (λ c. search rules) (λ c. search rules) (λ c. search rules) (λ c. search rules) (λ c. search rules) later-pairs-requires (λ c. search rules) returns)
+pub feed_spec : {M : Type 1} → statement M
+feed_spec = tie.close (tie.spec first-pair-requires (λ c. search rules) sub-later-pairs part-later-pairs-start (λ c. search rules) (λ c. search rules) (λ c. search rules) (λ c. search rules) (λ c. search rules) later-pairs-requires (λ c. search rules) returns)

@@ -9,10 +9,10 @@ use Rattle.parts.proofs.keep.Statement.{statement}
 use Rattle.parts.proofs.keep.Tie as tie
 
 kept-long : (c : tie.Start) → length c.args.state.kept ≡ 32
-kept-long c = search (rules, c.well-formed)
+kept-long c = search (rules, c.well_formed)
 
 sum_long : (c : tie.Start) → length c.args.state.sum ≡ 16
-sum_long c = search (rules, c.well-formed)
+sum_long c = search (rules, c.well_formed)
 
 returns : tie.Need-returns
 returns c =

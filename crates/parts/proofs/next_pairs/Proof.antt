@@ -24,11 +24,11 @@ returns c =
     let start = at-zeros.before.before.before in
     let v = start.args in
     let k = doubled v.l v.r in
-    let carries = subst (λ (z : List ℕ). Carries k v.l z v.r z) (sym at-zeros.zeros.ensures) (doubled_carries v.l v.r (l-long start) (r-long start)) in
-    let masks-are = at-pairs.pairs.ensures.1.0 k carries in (
-      at-pairs.pairs.ensures.0 k carries,
-      ((masks-are.0, (masks-are.1, c.xor.ensures ∙ ap (xor v.s) c.before.sum.ensures)), at-pairs.pairs.ensures.1.1 k),
+    let carries = subst (λ (z : List ℕ). Carries k v.l z v.r z) (sym at-zeros.zeros-none.ensures) (doubled_carries v.l v.r (l-long start) (r-long start)) in
+    let masks-are = at-pairs.pairs-after.ensures.1.0 k carries in (
+      at-pairs.pairs-after.ensures.0 k carries,
+      ((masks-are.0, (masks-are.1, c.xor.ensures ∙ ap (xor v.s) c.before.sum.ensures)), at-pairs.pairs-after.ensures.1.1 k),
     )
 
-pub next-pairs-spec : {M : Type 1} → statement M
-next-pairs-spec = tie.close (tie.spec (λ c κs. search rules) (λ c κs. search rules) (λ c κs. search rules) (λ c κs. search rules) (λ c. search rules) returns)
+pub next_pairs_spec : {M : Type 1} → statement M
+next_pairs_spec = tie.close (tie.spec (λ c κs. search rules) (λ c κs. search rules) (λ c κs. search rules) (λ c κs. search rules) (λ c. search rules) returns)

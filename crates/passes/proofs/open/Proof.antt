@@ -62,98 +62,98 @@ tag-given c =
     take_all (length c.args.s.now - b) (drop b c.args.s.now) (omega (arith, length-drop b c.args.s.now))
 
 -- once the tags are compared
-abbrev open_of : tie.After-equal → tie.After-open
+abbrev open_of : tie.After-equal → tie.After-open-pass
 open_of c = c.before.before.before.before.before.before.before.before.before
 
-abbrev with-of : tie.After-equal → tie.After-seals-with
+abbrev with-of : tie.After-equal → tie.After-seals_with-with
 with-of c = (open_of c).before.before.before.before.before
 
-abbrev opening_of : tie.After-open → tie.Start
-opening_of c = c.before.before.before.before.before.before.before.before.before.before
+abbrev opening_of : tie.After-open-pass → tie.Start
+opening_of c = c.before.before.before.before.before.before.before.before.before
 
 abbrev start_of : tie.After-equal → tie.Start
 start_of c = opening_of (open_of c)
 
-message-is : (c : tie.After-equal) → (open_of c).«open».new.1.1.1.1.1.1.0 ≡ lay 0 (plain (start_of c)) (start_of c).args.out.now
+message-is : (c : tie.After-equal) → (open_of c).open-pass.new.out ≡ lay 0 (plain (start_of c)) (start_of c).args.out.now
 message-is c =
     let start = start_of c in
-    (open_of c).«open».ensures.0
+    (open_of c).open-pass.ensures.0
     ∙ ap (λ (j : Masks). lay 0 (unbody (E start) j (ciphertext start)) start.args.out.now)
-    (masks_alike start.args.edition start.args.form _ _ (with-of c).seals-with.ensures.0)
+    (masks_alike start.args.edition start.args.form _ _ (with-of c).seals_with-with.ensures.0)
 
 answer_is : (c : tie.After-equal) → found (start_of c) ≡ answer c.equal.result (plain (start_of c))
 answer_is c =
     let start = start_of c in
     let v = start.args in
-    let with = (with-of c).seals-with.ensures in
+    let with = (with-of c).seals_with-with.ensures in
     let masks-are = masks_alike v.edition v.form _ _ with.0 in
-    let te-is = (open_of c).«open».ensures.1.0 ∙ ap (λ (j : Masks). te (E start) j (unbody (E start) j (ciphertext start))) masks-are in
-    let x-is = c.before.before.before.before.before.xor.ensures ∙ ap₂ xor te-is with.1.0 in
+    let te-is = (open_of c).open-pass.ensures.1.0 ∙ ap (λ (j : Masks). te (E start) j (unbody (E start) j (ciphertext start))) masks-are in
+    let x-is = c.before.before.before.before.before.xor-x.ensures ∙ ap₂ xor te-is with.1.0 in
     opened_by (E start) (k start) (added (E start) v.q (edition_of v.edition v.form) v.n.now v.a.now v.t) v.t v.s.now c.equal.result
     (sym (c.equal.ensures ∙ ap₂ (λ (x y : List ℕ). same (take v.t x) y) x-is (tag-given start)))
 
 -- the runs before the message pass, and its own
-runs_are : (c : tie.After-open)
-    → c.before.before.before.before.before.seals-with.result.runs + c.«open».result.runs
+runs_are : (c : tie.After-open-pass)
+    → c.before.before.before.before.seals_with-with.result.runs + c.open-pass.result.runs
     ≡ length (found_from_inputs (E (opening_of c)) (opening_of c).args.q (edition_of (opening_of c).args.edition (opening_of c).args.form) (opening_of c).args.n.now (opening_of c).args.a.now (opening_of c).args.t (opening_of c).args.s.now)
 runs_are c =
     let start = opening_of c in
     let v = start.args in
     let f = edition_of v.edition v.form in
-    let with = c.before.before.before.before.before.seals-with.ensures in
-    ap₂ ◌+◌ with.1.1 (c.«open».ensures.1.1 ∙ ap (λ (j : Masks). length (undone_inputs (E start) j (ciphertext start))) (masks_alike v.edition v.form _ _ with.0))
+    let with = c.before.before.before.before.seals_with-with.ensures in
+    ap₂ ◌+◌ with.1.1 (c.open-pass.ensures.1.1 ∙ ap (λ (j : Masks). length (undone_inputs (E start) j (ciphertext start))) (masks_alike v.edition v.form _ _ with.0))
     ∙ sym (length-append (call_inputs (E start) v.q f v.n.now v.a.now v.t) (undone_inputs (E start) (k start) (ciphertext start)))
 
-add-runs : tie.Need-overflow-add-runs
+add-runs : tie.Need-overflow_add-runs
 add-runs c =
     let at_open = c.before.before.before.before.before.before in
     let start = opening_of at_open in
     let v = start.args in
     record { fits = omega (arith, runs_are at_open, length-found_from_inputs (E start) v.q (edition_of v.edition v.form) v.n.now v.a.now v.t v.s.now, start.ranges) }
 
-slice-aggregate-open : tie.Need-slice-aggregate-open
-slice-aggregate-open c = sym (cipher-long c.before.before.before.before.before.before.before.before)
+slice-aggregate-open : tie.Need-slice_bounds-open-end
+slice-aggregate-open c = sym (cipher-long c.before.before.before.before.before.before.before)
 
-open-requires : tie.Need-open-requires
+open-requires : tie.Need-open-pass-requires
 open-requires c κs =
-    let start = c.before.before.before.before.before.before.before.before.before in
+    let start = c.before.before.before.before.before.before.before.before in
     (start.requires.0, (start.requires.1.0, omega (arith, cipher-long start, start.requires.1.1.1)))
 
 -- the two tags, as they are lent to the comparison
-x-long : (c : tie.After-xor) → length c.xor.result ≡ 16
-x-long c = search c.xor.type-inv
+x-long : (c : tie.After-xor-x) → length c.xor-x.result ≡ 16
+x-long c = search c.xor-x.type_inv
 
-array-share-prefix-x : tie.Need-array-share-prefix-x
+array-share-prefix-x : tie.Need-slice_bounds-x-end
 array-share-prefix-x c =
     let start = opening_of c.before.before.before.before.before.before in
     omega (arith, x-long c.before.before, start.requires.1.1.0)
 
-slice-aggregate-equal : tie.Need-slice-aggregate-equal
+slice-aggregate-equal : tie.Need-slice_bounds-equal-end
 slice-aggregate-equal c =
     let at-xor = c.before.before.before in
     let start = opening_of at-xor.before.before.before.before in
-    sym (length-take-le start.args.t at-xor.xor.result (omega (arith, x-long at-xor, start.requires.1.1.0)))
+    sym (length-take-le start.args.t at-xor.xor-x.result (omega (arith, x-long at-xor, start.requires.1.1.0)))
 
-returns : tie.Need-returns
+returns : tie.Need-returns-then-equal
 returns c =
     let d = c.before in
     let start = start_of d in
-    let is : found start ≡ answer true (plain start) = answer_is d ∙ ap (λ (b : Bool). answer b (plain start)) c.if1.true in
+    let is : found start ≡ answer true (plain start) = answer_is d ∙ ap (λ (b : Bool). answer b (plain start)) c.if-equal.true in
     let shown-is = message-is d ∙ sym (ap (λ (o : Opened). shown o (length start.args.s.now - start.args.t) start.args.out.now) is) in
     (sym (ap flag is), (shown-is, runs_are (open_of d)))
 
 clear-requires : tie.Need-clear-requires
 clear-requires c κs =
     let d = c.before.before in
-    omega (arith, (start_of d).requires.1.1.1, (open_of d).«open».auto)
+    omega (arith, (start_of d).requires.1.1.1, (open_of d).open-pass.auto)
 
-returns-2 : tie.Need-returns-2
+returns-2 : tie.Need-returns
 returns-2 c =
     let d = c.before.before.before.before.before in
     let start = start_of d in
     let n = length start.args.s.now - start.args.t in
     let out = start.args.out.now in
-    let is : found start ≡ answer false (plain start) = answer_is d ∙ ap (λ (b : Bool). answer b (plain start)) c.before.before.before.before.if1.false in (
+    let is : found start ≡ answer false (plain start) = answer_is d ∙ ap (λ (b : Bool). answer b (plain start)) c.before.before.before.before.if-equal.false in (
       sym (ap flag is),
       (
         c.before.before.clear.ensures

@@ -27,7 +27,7 @@ returns c =
     let n = start.args.nonce.now in
     let j = 15 - length n in
     let b = set at-zeros.zeros-b.result 0 (tag_byte t) in
-    let laid : c.before.lay.new.out.0 ≡ lay (j + 1) n (set b j (get_or b j 0 + 1)) = c.before.lay.ensures in
+    let laid : c.before.lay.new.out ≡ lay (j + 1) n (set b j (get_or b j 0 + 1)) = c.before.lay.ensures in
     laid
     ∙ ap (λ (l : List ℕ). lay (j + 1) n (set l j (get_or l j 0 + 1))) (tag_stored t at-zeros.zeros-b.result at-zeros.zeros-b.ensures)
     ∙ formatted t n start.requires.0.1

@@ -24,10 +24,10 @@ use Rattle.passes.proofs.message.open.Statement.{statement}
 use Rattle.passes.proofs.message.open.Tie as tie
 
 -- n pairs lie within the ciphertext, and no more than two blocks behind them
-within : (c : tie.After-pairs-of) → (32 * c.pairs_of.result ≤ length c.before.before.before.args.c.now) × (length c.before.before.before.args.c.now ≤ 32 * c.pairs_of.result + 32)
+within : (c : tie.After-pairs_of-n) → (32 * c.pairs_of-n.result ≤ length c.before.before.before.args.c.now) × (length c.before.before.before.args.c.now ≤ 32 * c.pairs_of-n.result + 32)
 within c =
     let b = length c.before.before.before.args.c.now in
-    (omega (arith, c.pairs_of.ensures, pairs-within b), omega (arith, c.pairs_of.ensures, rest_most b))
+    (omega (arith, c.pairs_of-n.ensures, pairs-within b), omega (arith, c.pairs_of-n.ensures, rest_most b))
 
 u-long : (c : tie.Start) → length c.args.u ≡ 16
 u-long c = search rules
@@ -38,68 +38,68 @@ masks-of c = masks_of (edition_of c.args.edition 0) c.args.u
 are-masks : (c : tie.Start) → AreMasks (masks-of c)
 are-masks c = edition_masks (edition_of c.args.edition 0) c.args.u (u-long c)
 
-mul_at : tie.Need-overflow-mul-at
+mul_at : tie.Need-overflow_mul-at
 mul_at c = omega (arith, within c)
 
-pairs-requires : tie.Need-pairs-requires
+pairs-requires : tie.Need-pairs-front-requires
 pairs-requires c κs =
     let at_count = c.before.before.before.before.before.before in
     let start = at_count.before.before.before in
     (start.requires.0, (start.requires.1.0, ((within at_count).0, omega (arith, within at_count, start.requires.1.1))))
 
-sum-requires : tie.Need-sum-requires
+sum-requires : tie.Need-sum-s-requires
 sum-requires c κs =
     let at-pairs = c.before.before.before.before.before in
     let at_count = at-pairs.before.before.before.before.before.before.before in
-    let start = at_count.before.before.before in
-    omega (arith, within at_count, start.requires.1.1, at-pairs.pairs.auto)
+    let start = at_count.before.before in
+    omega (arith, within at_count, start.requires.1.1, at-pairs.pairs-front.auto)
 
-open-rest-requires : tie.Need-open-rest-requires
+open-rest-requires : tie.Need-open_rest-rest-requires
 open-rest-requires c κs =
     let at-pairs = c.before.before.before.before.before.before.before in
     let at_count = at-pairs.before.before.before.before.before.before.before in
-    let start = at_count.before.before.before in (
+    let start = at_count.before.before in (
       start.requires.0,
       (
         start.requires.1.0,
-        ((within at_count).0, ((within at_count).1, omega (arith, start.requires.1.1, at-pairs.pairs.auto))),
+        ((within at_count).0, ((within at_count).1, omega (arith, start.requires.1.1, at-pairs.pairs_front.auto))),
       ),
     )
 
-sub-te : tie.Need-overflow-sub-te
+sub-te : tie.Need-overflow_sub-c
 sub-te c = (within c.before.before.before.before.before.before.before.before.before.before.before.before.before.before.before.before.before.before).0
 
-te-requires : tie.Need-te-requires
+te-requires : tie.Need-te-te-requires
 te-requires c κs =
-    let start = c.before.before.before.before.before.before.before.before.before.before.before.before.before.before.before.before.before.before.before.before.before.before in
+    let start = c.before.before.before.before.before.before.before.before.before.before.before.before.before.before.before.before.before.before.before.before.before in
     (start.requires.0, start.requires.1.0)
 
 -- once TE is ciphered: the counts of the pairs, of what remains and of TE, in all
-abbrev rest_of : tie.After-te → tie.After-open-rest
+abbrev rest_of : tie.After-te-te → tie.After-open_rest-rest
 rest_of c = c.before.before.before.before.before
 
-abbrev pairs-at : tie.After-te → tie.After-pairs
+abbrev pairs-at : tie.After-te-te → tie.After-pairs-front
 pairs-at c = (rest_of c).before.before.before.before.before.before.before.before
 
-abbrev count_of : tie.After-te → tie.After-pairs-of
+abbrev count_of : tie.After-te-te → tie.After-pairs_of-n
 count_of c = (pairs-at c).before.before.before.before.before.before.before
 
-runs_are : (c : tie.After-te) → (pairs-at c).pairs.result.runs + (rest_of c).open-rest.result.runs + c.te.result.runs ≡ (length (count_of c).before.before.before.args.c.now + 15) / 16 + 1
+runs_are : (c : tie.After-te-te) → (pairs-at c).pairs-front.result.runs + (rest_of c).open_rest-rest.result.runs + c.te-te.result.runs ≡ (length (count_of c).before.before.before.args.c.now + 15) / 16 + 1
 runs_are c =
     let v = (count_of c).before.before.before.args in
     let E = cipher v.nr v.w.now in
-    let n = (count_of c).pairs_of.result in
-    let hn = (count_of c).pairs_of.ensures in
+    let n = (count_of c).pairs_of-n.result in
+    let hn = (count_of c).pairs_of-n.ensures in
     let x = drop (32 * n) v.c.now in
-    all_runs v.c.now n hn _ _ _ ((pairs-at c).pairs.ensures.1.1 (masks-of (count_of c).before.before.before) ∙ length-pairs_inputs E _ n v.c.now)
-    ((rest_of c).open-rest.ensures.1.1 ∙ length-unending_inputs E (ltb (32 * n + 16) (length v.c.now)) _ _ x (remains_behind v.c.now n hn)) c.te.ensures.1
+    all_runs v.c.now n hn _ _ _ ((pairs-at c).pairs-front.ensures.1.1 (masks-of (count_of c).before.before.before) ∙ length-pairs_inputs E _ n v.c.now)
+    ((rest_of c).open_rest-rest.ensures.1.1 ∙ length-unending_inputs E (ltb (32 * n + 16) (length v.c.now)) _ _ x (remains_behind v.c.now n hn)) c.te-te.ensures.1
 
-add-runs : tie.Need-overflow-add-t23
+add-runs : tie.Need-overflow_add-result
 add-runs c =
     let at-te = c.before.before.before in
     record { fits = omega (arith, runs_are at-te, (count_of at-te).before.before.before.well-formed) }
 
-add-all-runs : tie.Need-overflow-add-t30
+add-all-runs : tie.Need-overflow_add-result-2
 add-all-runs c =
     let at-te = c.before.before.before.before in
     record { fits = omega (arith, runs_are at-te, (count_of at-te).before.before.before.well-formed) }
@@ -112,8 +112,8 @@ returns c =
     let at-pairs = at_sum.before.before.before.before.before.before in
     let at-zeros = at-pairs.before.before in
     let at-start = at-zeros.before.before.before.before in
-    let at_count = at-start.before in
-    let start = at_count.before.before.before in
+    let at_count = at-start in
+    let start = at_count.before.before in
     let v = start.args in
     let E = cipher v.nr v.w.now in
     let e = is_cipher v.nr v.w.now in
@@ -121,24 +121,24 @@ returns c =
     let s = are-masks start in
     let m = v.c.now in
     let out = v.out.now in
-    let n = at_count.pairs_of.result in
-    let hn = at_count.pairs_of.ensures in
-    let first = at-start.start_of.result in
-    let carries : Carries k first.left at-zeros.zeros.result first.right first.step =
-    subst (λ (z : List ℕ). Carries k first.left z first.right first.step) (sym at-zeros.zeros.ensures) at-start.start_of.ensures in
-    let exchanged : Carries (swapped k) first.right first.step first.left at-zeros.zeros.result = (carries.1, carries.0) in
-    let L = at-pairs.pairs.result.right in
-    let R = at-pairs.pairs.result.left in
-    let masks-are = at-pairs.pairs.ensures.1.0 (swapped k) exchanged in
-    let laid-is = at-pairs.pairs.ensures.0 (swapped k) exchanged in (
-      at_rest.open-rest.ensures.0
+    let n = at_count.pairs_of-n.result in
+    let hn = at_count.pairs_of-n.ensures in
+    let first = at-start.start_of-first.result in
+    let carries : Carries k first.left at-zeros.zeros-none.result first.right first.step =
+    subst (λ (z : List ℕ). Carries k first.left z first.right first.step) (sym at-zeros.zeros-none.ensures) at-start.start_of-first.ensures in
+    let exchanged : Carries (swapped k) first.right first.step first.left at-zeros.zeros-none.result = (carries.1, carries.0) in
+    let L = at-pairs.pairs-front.result.right in
+    let R = at-pairs.pairs-front.result.left in
+    let masks-are = at-pairs.pairs-front.ensures.1.0 (swapped k) exchanged in
+    let laid-is = at-pairs.pairs-front.ensures.0 (swapped k) exchanged in (
+      at_rest.open_rest-rest.ensures.0
           ∙ ap (lay (32 * n) (unending E (ltb (32 * n + 16) (length m)) L R (drop (32 * n) m))) laid-is
           ∙ undone_laid E e k s m out n L R hn masks-are.1 masks-are.0 start.requires.1.1,
       (
-        at-te.te.ensures.0
+        at-te.te-te.ensures.0
             ∙ ap (λ (x : List ℕ). E (xor (final k (ltb (last_length (ltb 16 (length m - 32 * n)) (length m - 32 * n)) 16) (base (ltb 16 (length m - 32 * n)) L R)) x)) at-te.before.xor.ensures
             ∙ te-opened E e k s m out n L R hn masks-are.1 masks-are.0 start.requires.1.1
-            at_sum.sum.result at_rest.open-rest.result.block (at_sum.sum.ensures ∙ ap (sum n) laid-is) at_rest.open-rest.ensures.1.0,
+            at_sum.sum-s.result at_rest.open_rest-rest.result.block (at_sum.sum-s.ensures ∙ ap (sum n) laid-is) at_rest.open_rest-rest.ensures.1.0,
         runs_are at-te ∙ sym (length-undone_inputs E k m),
       ),
     )

@@ -62,23 +62,23 @@ renamed : (k : Masks) (l l' a r r' b b' : List ℕ) → l' ≡ l → r' ≡ r �
 renamed k l l' a r r' b b' hl hr hb h =
     ((h.0.0 ∙ sym hl, h.0.1), (h.1.0 ∙ sym hr, λ i. h.1.1 i ∙ ap (xor (double (k.right i))) (sym hb)))
 
-returns : tie.Need-returns
+returns : tie.Need-returns-then-edition-eq1
 returns c =
     let start = c.before.before.before.before.before in
     let u = start.args.u in
-    let four_is = c.before.double2.ensures ∙ ap double c.before.before.double.ensures in
-    subst (λ (f : Edition). Carries (masks_of f u) c.before.double2.result (zeros 16) c.xor.result c.before.before.before.before.triple.result)
-    (sym (is_first start.args.edition 0 c.before.before.before.if1.true))
-    (renamed (first u) _ _ (zeros 16) _ _ _ _ four_is (c.xor.ensures ∙ ap (λ (x : List ℕ). xor x u) four_is) c.before.before.before.before.triple.ensures
+    let four_is = c.before.double-four.ensures ∙ ap double c.before.before.double-two.ensures in
+    subst (λ (f : Edition). Carries (masks_of f u) c.before.double-four.result (zeros 16) c.xor.result c.before.before.before.before.triple-three.result)
+    (sym (is_first start.args.edition 0 c.before.before.before.if-edition-eq1.true))
+    (renamed (first u) _ _ (zeros 16) _ _ _ _ four_is (c.xor.ensures ∙ ap (λ (x : List ℕ). xor x u) four_is) c.before.before.before.before.triple-three.ensures
     (first-carries u (u-long start) (u-bytes start)))
 
-returns-2 : tie.Need-returns-2
+returns-2 : tie.Need-returns
 returns-2 c =
     let start = c.before.before.before in
     let u = start.args.u in
-    subst (λ (f : Edition). Carries (masks_of f u) u (zeros 16) c.before.before.triple.result c.zeros.result)
-    (sym (is_third start.args.edition 0 c.before.if1.false))
-    (renamed (third u) _ _ (zeros 16) _ _ _ _ refl c.before.before.triple.ensures c.zeros.ensures (third-carries u (u-long start)))
+    subst (λ (f : Edition). Carries (masks_of f u) u (zeros 16) c.before.before.triple-three.result c.zeros.result)
+    (sym (is_third start.args.edition 0 c.before.if-edition-eq1.false))
+    (renamed (third u) _ _ (zeros 16) _ _ _ _ refl c.before.before.triple-three.ensures c.zeros.ensures (third-carries u (u-long start)))
 
-pub start-of-spec : {M : Type 1} → statement M
-start-of-spec = tie.close (tie.spec (λ c κs. search rules) (λ c κs. search rules) (λ c κs. search rules) (λ c κs. search rules) returns (λ c κs. search rules) returns-2)
+pub start_of_spec : {M : Type 1} → statement M
+start_of_spec = tie.close (tie.spec (λ c κs. search rules) (λ c κs. search rules) (λ c κs. search rules) (λ c κs. search rules) returns (λ c κs. search rules) returns-2)
