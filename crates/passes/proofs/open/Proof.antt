@@ -66,7 +66,7 @@ abbrev open_of : tie.After-equal → tie.After-open-pass
 open_of c = c.before.before.before.before.before.before.before.before.before
 
 abbrev with-of : tie.After-equal → tie.After-seals_with-with
-with-of c = (open_of c).before.before.before.before.before
+with-of c = (open_of c).before.before.before.before
 
 abbrev opening_of : tie.After-open-pass → tie.Start
 opening_of c = c.before.before.before.before.before.before.before.before.before

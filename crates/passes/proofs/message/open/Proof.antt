@@ -49,25 +49,25 @@ pairs-requires c κs =
 
 sum-requires : tie.Need-sum-s-requires
 sum-requires c κs =
-    let at-pairs = c.before.before.before.before.before in
+    let at-pairs = c.before.before.before.before in
     let at_count = at-pairs.before.before.before.before.before.before.before in
     let start = at_count.before.before in
     omega (arith, within at_count, start.requires.1.1, at-pairs.pairs-front.auto)
 
 open-rest-requires : tie.Need-open_rest-rest-requires
 open-rest-requires c κs =
-    let at-pairs = c.before.before.before.before.before.before.before in
+    let at-pairs = c.before.before.before.before.before.before in
     let at_count = at-pairs.before.before.before.before.before.before.before in
-    let start = at_count.before.before in (
+    let start = at_count.before.before.before in (
       start.requires.0,
       (
         start.requires.1.0,
-        ((within at_count).0, ((within at_count).1, omega (arith, start.requires.1.1, at-pairs.pairs_front.auto))),
+        ((within at_count).0, ((within at_count).1, omega (arith, start.requires.1.1, at-pairs.pairs-front.auto))),
       ),
     )
 
 sub-te : tie.Need-overflow_sub-c
-sub-te c = (within c.before.before.before.before.before.before.before.before.before.before.before.before.before.before.before.before.before.before).0
+sub-te c = (within c.before.before.before.before.before.before.before.before.before.before.before.before.before.before.before.before.before).0
 
 te-requires : tie.Need-te-te-requires
 te-requires c κs =
@@ -79,7 +79,7 @@ abbrev rest_of : tie.After-te-te → tie.After-open_rest-rest
 rest_of c = c.before.before.before.before.before
 
 abbrev pairs-at : tie.After-te-te → tie.After-pairs-front
-pairs-at c = (rest_of c).before.before.before.before.before.before.before.before
+pairs-at c = (rest_of c).before.before.before.before.before.before.before
 
 abbrev count_of : tie.After-te-te → tie.After-pairs_of-n
 count_of c = (pairs-at c).before.before.before.before.before.before.before
@@ -97,23 +97,23 @@ runs_are c =
 add-runs : tie.Need-overflow_add-result
 add-runs c =
     let at-te = c.before.before.before in
-    record { fits = omega (arith, runs_are at-te, (count_of at-te).before.before.before.well-formed) }
+    record { fits = omega (arith, runs_are at-te, (count_of at-te).before.before.before.well_formed) }
 
 add-all-runs : tie.Need-overflow_add-result-2
 add-all-runs c =
     let at-te = c.before.before.before.before in
-    record { fits = omega (arith, runs_are at-te, (count_of at-te).before.before.before.well-formed) }
+    record { fits = omega (arith, runs_are at-te, (count_of at-te).before.before.before.well_formed) }
 
 returns : tie.Need-returns
 returns c =
     let at-te = c.before.before.before.before in
     let at_rest = rest_of at-te in
     let at_sum = at_rest.before.before in
-    let at-pairs = at_sum.before.before.before.before.before.before in
-    let at-zeros = at-pairs.before.before in
-    let at-start = at-zeros.before.before.before.before in
+    let at-pairs = at_sum.before.before.before.before.before in
+    let at-zeros = at-pairs.before in
+    let at-start = at-zeros.before.before.before in
     let at_count = at-start in
-    let start = at_count.before.before in
+    let start = at_count.before.before.before.before.before.before in
     let v = start.args in
     let E = cipher v.nr v.w.now in
     let e = is_cipher v.nr v.w.now in
