@@ -93,7 +93,7 @@ returns c =
     let L-is : L ≡ doubles 1 s.left = first.ensures.1.0.0 in
     let R-is : R ≡ doubles 1 s.right = first.ensures.1.0.1.0 in (
       ap (λ (x : List ℕ). take 32 o ++ (x ++ drop (length o - 32) (drop 32 o))) later.ensures.0
-          ∙ lay_part 32 (pairs E (doubled L R) (v.n - 1) tail) o (omega (arith, first.auto, (due start).ranges, (due start).some))
+          ∙ lay_part 32 (pairs E (doubled L R) (v.n - 1) tail) o (omega (arith, first.auto, (due start).fits, (due start).some))
           ∙ ap₂ (λ (k : Masks) (x : List ℕ). lay 32 (pairs E k (v.n - 1) x) o) (ap₂ doubled L-is R-is) tail_is
           ∙ ap (lay 32 (pairs E (doubled (doubles 1 s.left) (doubles 1 s.right)) (v.n - 1) (drop (32 - v.held) v.part.now))) first.ensures.0
           ∙ fed_laid E e s v.held v.n v.part.now v.out.now (due start),

@@ -21,7 +21,7 @@ slice-aggregate-lay-2 c = sym (held_long c.before.before.before.before)
 lay-requires : tie.Need-lay-requires
 lay-requires c κs =
     let start = c.before.before.before.before in
-    let long : length c.before.before.blank-all.result ≡ 32 = search c.before.before.blank-all.type-inv in
+    let long : length c.before.before.blank-all.result ≡ 32 = search rules in
     omega (arith, held_long start, start.requires, long)
 
 returns : tie.Need-returns
