@@ -129,7 +129,7 @@ module _ (edition form : ℕ) (k : Bool) (nonce t ad : ℕ) where
           f.known,
           in_range 1 15 nonce f.nonces.0 f.nonces.1,
           in_range 4 16 t f.tags.0 f.tags.1,
-          le-leb ad 4096 f.data-most,
+          le-leb ad 4096 f.data_most,
         )
 
     pub seal_passes : (m o : ℕ) → m ≤ 16384 → m + t ≤ o → call_check edition form k nonce t ad (seal_next t m o) ≡ pass (m + t)

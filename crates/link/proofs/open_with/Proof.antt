@@ -12,7 +12,7 @@ use borrow.Author.Rules.{rules}
 use Rattle.link.proofs.open_with.Statement.{statement}
 use Rattle.link.proofs.open_with.Tie as tie
 
-abbrev start_of : tie.After-open-check → tie.Start
+abbrev start_of : tie.After-open_check-answer → tie.Start
 start_of c = c.before.before.before.before.before.before
 
 -- every length is within its limits, and what is written fits
@@ -22,30 +22,30 @@ Passed c =
     OpenFits v.edition v.form (known_rounds v.key.rounds) (length v.nonce.now) v.tag (length v.ad.now) (length v.sealed.now) (length v.out.now)
     × (call_check v.edition v.form (known_rounds v.key.rounds) (length v.nonce.now) v.tag (length v.ad.now) (open_next v.tag (length v.sealed.now) (length v.out.now)) ≡ pass (length v.sealed.now - v.tag))
 
-passed : (c : tie.Else1) → Passed (start_of c.before.before)
+passed : (c : tie.Else-number-ne0) → Passed (start_of c.before.before)
 passed c =
     let at-check = c.before.before in
-    admitted _ _ _ _ at-check.before.known-rounds.ensures _ _ _ _ _ at-check.open-check.ensures _ c.before.number.ensures (open_verdict _ _ _ _ _ _ _ _) c.if1.false
+    admitted _ _ _ _ at-check.before.known_rounds-known.ensures _ _ _ _ _ at-check.open_check-answer.ensures _ c.before.number.ensures (open_verdict _ _ _ _ _ _ _ _) c.if-number-ne0.false
 
-returns : tie.Need-returns
+returns : tie.Need-returns-then-number-ne0
 unfolding OpensWith
 returns c =
     let at-check = c.before.before in
     let v = (start_of at-check).args in
-    open_refused _ _ _ _ at-check.before.known-rounds.ensures _ _ _ _ _ at-check.open-check.ensures _ c.before.number.ensures c.if1.true _ _ v.sealed.now v.out.now
+    open_refused _ _ _ _ at-check.before.known_rounds-known.ensures _ _ _ _ _ at-check.open_check-answer.ensures _ c.before.number.ensures c.if-number-ne0.true _ _ v.sealed.now v.out.now
 
 open-requires : tie.Need-open-requires
 open-requires c κs =
     let f = (passed c.before.before.before).0 in
-    (c.before.before.joined.ensures, (counted _ f.0.known, ((f.0.nonces.0, (f.0.nonces.1, f.0.tags.1)), (f.1, (f.3, omega arith)))))
+    (c.before.before.joined-tables.ensures, (counted _ f.0.known, ((f.0.nonces.0, (f.0.nonces.1, f.0.tags.1)), (f.1, (f.3, omega arith)))))
 
-returns-2 : tie.Need-returns-2
+returns-2 : tie.Need-returns
 unfolding OpensWith
 returns-2 c =
     let at_open = c.before.before in
     let e = at_open.before.before.before.before in
     let v = (start_of e.before.before).args in
-    come_to_open _ (length v.sealed.now - v.tag) (passed e).1 _ _ _ _ v.sealed.now v.out.now at_open.«open».result at_open.«open».new.1.1.1.1.1.1.1.1.1.0 (zero-add _) refl at_open.«open».ensures
+    come_to_open _ (length v.sealed.now - v.tag) (passed e).1 _ _ _ _ v.sealed.now v.out.now at_open.«open».result at_open.«open».new.out (zero-add _) refl at_open.«open».ensures
 
-pub open-with-spec : {M : Type 1} → statement M
-open-with-spec = tie.close (tie.spec (λ c κs. search rules) (λ c κs. search rules) (λ c κs. search rules) returns (λ c κs. search rules) open-requires (λ c. search rules) returns-2)
+pub open_with_spec : {M : Type 1} → statement M
+open_with_spec = tie.close (tie.spec (λ c κs. search rules) (λ c κs. search rules) (λ c κs. search rules) returns (λ c κs. search rules) open-requires (λ c. search rules) returns-2)

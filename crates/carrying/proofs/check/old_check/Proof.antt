@@ -3,7 +3,6 @@ use mathlib.Core.Path.{◌≡◌, sym, ap, ◌∙◌}
 use mathlib.Core.Bool.{Bool}
 use Prim.Native.Nat.{◌+◌}
 use native.Mathlib.Omega.{arith}
-use borrow.Author.Tests.{not-true, not-false}
 use Rattle.link.specs.Checks.{Check, pass, from_to, unless, known_key, call_check, as_answer}
 use Rattle.link.specs.declared.answer.Answer.TheVariants.{Length}
 use Rattle.link.proofs.Verdicts.{Called, called, goes_on, stops_here}
@@ -48,12 +47,12 @@ add-from-to c = omega (arith, (shared c).tags)
 returns-2 : tie.Need-returns-2
 returns-2 c =
     let d = c.before in
-    sym (ap as_answer (next-is d.before) ∙ rw (sym d.from-to.ensures ∙ not-true d.from-to.result c.if2.true))
+    sym (ap as_answer (next-is d.before) ∙ rw (sym d.from-to.ensures ∙ c.if2.true))
 
 returns-3 : tie.Need-returns-3
 returns-3 c =
     let d = c.before in
-    sym (ap as_answer (next-is d.before) ∙ rw (sym d.from-to.ensures ∙ not-false d.from-to.result c.if2.false))
+    sym (ap as_answer (next-is d.before) ∙ rw (sym d.from-to.ensures ∙ c.if2.false))
 
 pub old-check-spec : {M : Type 1} → statement M
 old-check-spec = tie.close (tie.spec (λ c κs. search rules) (λ c κs. search rules) (λ c κs. search rules) returns add-from-to (λ c κs. search rules) returns-2 returns-3)

@@ -21,38 +21,38 @@ checks c =
     call_check v.edition v.form v.known v.nonce v.tag v.ad (seal_next v.tag v.message v.room)
 
 -- they have passed
-next-is : (c : tie.Else1) → checks c.before.before.before ≡ next c.before.before.before
+next-is : (c : tie.Else-number-ne0) → checks c.before.before.before ≡ next c.before.before.before
 next-is c =
     let at-check = c.before.before in
-    goes_on _ _ _ _ _ _ _ at-check.call-check.ensures _ c.before.number.ensures c.if1.false (next at-check.before)
+    goes_on _ _ _ _ _ _ _ at-check.call_check-first.ensures _ c.before.number.ensures c.if-number-ne0.false (next at-check.before)
 
-returns : tie.Need-returns
+returns : tie.Need-returns-then-number-ne0
 returns c =
     let at-check = c.before.before in
-    stops_here _ _ _ _ _ _ _ at-check.call-check.ensures _ c.before.number.ensures c.if1.true (next at-check.before)
+    stops_here _ _ _ _ _ _ _ at-check.call_check-first.ensures _ c.before.number.ensures c.if-number-ne0.true (next at-check.before)
 
-returns-2 : tie.Need-returns-2
+returns-2 : tie.Need-returns-then-message-gt16384
 returns-2 c =
     let v = c.before.before.before.before.args in
-    sym (ap as_answer (next-is c.before) ∙ rw (lt-leb v.message 16384 c.if2.true))
+    sym (ap as_answer (next-is c.before) ∙ rw (lt-leb v.message 16384 c.if-message-gt16384.true))
 
-add-if3 : tie.Need-overflow-add-if3
+add-if3 : tie.Need-overflow_add-message
 add-if3 c =
     let e = c.before in
-    omega (arith, called _ _ _ _ _ _ _ e.before.before.call-check.ensures _ e.before.number.ensures e.if1.false)
+    omega (arith, called _ _ _ _ _ _ _ e.before.before.call_check-first.ensures _ e.before.number.ensures e.if-number-ne0.false)
 
-returns-3 : tie.Need-returns-3
+returns-3 : tie.Need-returns-then-room-message
 returns-3 c =
     let e = c.before.before in
     let v = e.before.before.before.args in
-    sym (ap as_answer (next-is e) ∙ rw (le-leb v.message 16384 c.before.if2.false, lt-leb (v.message + v.tag) v.room c.if3.true))
+    sym (ap as_answer (next-is e) ∙ rw (le-leb v.message 16384 c.before.if-message-gt16384.false, lt-leb (v.message + v.tag) v.room c.if-room-message.true))
 
-returns-4 : tie.Need-returns-4
+returns-4 : tie.Need-returns
 returns-4 c =
     let e = c.before.before in
     let v = e.before.before.before.args in
-    sym (ap as_answer (next-is e) ∙ rw (le-leb v.message 16384 c.before.if2.false, le-leb (v.message + v.tag) v.room c.if3.false))
+    sym (ap as_answer (next-is e) ∙ rw (le-leb v.message 16384 c.before.if-message-gt16384.false, le-leb (v.message + v.tag) v.room c.if-room-message.false))
 
-pub seal-check-spec : {M : Type 1} → statement M
-seal-check-spec =
+pub seal_check_spec : {M : Type 1} → statement M
+seal_check_spec =
     tie.close (tie.spec (λ c κs. search rules) (λ c κs. search rules) returns returns-2 add-if3 returns-3 (λ c. search rules) returns-4)

@@ -11,5 +11,5 @@ returns c =
     let v = c.before.before.before.args in
     c.record_of.ensures ∙ ap (own_of v.key.now) (with_data_lem v.ad.now)
 
-pub own-record-spec : {M : Type 1} → statement M
-own-record-spec = tie.close (tie.spec (λ c κs. search rules) returns)
+pub own_record_spec : {M : Type 1} → statement M
+own_record_spec = tie.close (tie.spec (λ c κs. search rules) returns)

@@ -4,7 +4,6 @@ use mathlib.Core.Bool.{Bool, true}
 use mathlib.Core.List.{List}
 use Prim.Native.Nat.{ℕ}
 use lib.ListN.{length}
-use borrow.Author.Tests.{not-true, not-false}
 use Rattle.link.specs.Checks.{known_key}
 use Rattle.link.specs.Prepared.{prepared_if, preparation}
 use Rattle.link.specs.declared.answer.Answer.TheVariants.{Done, Key}
@@ -13,27 +12,27 @@ use borrow.Author.Rules.{rules}
 use Rattle.link.proofs.prepared.prepare.Statement.{statement}
 use Rattle.link.proofs.prepared.prepare.Tie as tie
 
-returns : tie.Need-returns
+returns : tie.Need-returns-then-not-known_key
 unfolding preparation
 returns c =
     let at-known = c.before.before.before in
     let key = c.before.before.before.before.before.args.key.now in
-    let unknown = sym at-known.known-key.ensures ∙ not-true at-known.known-key.result c.before.before.if1.true in
-    ap₂ (λ (w z : List ℕ). record { answer = Key; key = record { rounds = 0; words = w; zero = z } }) c.before.blank.ensures c.zeros.ensures
+    let unknown = sym at-known.known_key.ensures ∙ c.before.before.if-not-known_key.true in
+    ap₂ (λ (w z : List ℕ). record { answer = Key; key = record { rounds = 0; words = w; zero = z } }) c.before.blank-w.ensures c.zeros-q.ensures
     ∙ sym (ap (λ (b : Bool). prepared_if b key) unknown)
 
-known : (c : tie.Else1) → known_key (length c.before.before.before.args.key.now) ≡ true
-known c = sym c.before.known-key.ensures ∙ not-false c.before.known-key.result c.if1.false
+known : (c : tie.Else-not-known_key) → known_key (length c.before.before.before.args.key.now) ≡ true
+known c = sym c.before.known_key.ensures ∙ c.if-not-known_key.false
 
-record-of-requires : tie.Need-record-of-requires
-record-of-requires c κs = (c.before.joined.ensures, known c.before.before)
+record-of-requires : tie.Need-record_of-own-requires
+record-of-requires c κs = (c.before.joined-tables.ensures, known c.before.before)
 
-returns-2 : tie.Need-returns-2
+returns-2 : tie.Need-returns
 unfolding preparation
 returns-2 c =
     let e = c.before.before.before.before in
     let key = e.before.before.before.args.key.now in
-    ap (λ (o : Own). record { answer = Done 0 o.runs; key = o.key }) c.before.record_of.ensures ∙ sym (ap (λ (b : Bool). prepared_if b key) (known e))
+    ap (λ (o : Own). record { answer = Done 0 o.runs; key = o.key }) c.before.record_of-own.ensures ∙ sym (ap (λ (b : Bool). prepared_if b key) (known e))
 
-pub prepare-spec : {M : Type 1} → statement M
-prepare-spec = tie.close (tie.spec (λ c κs. search rules) (λ c κs. search rules) (λ c κs. search rules) returns (λ c κs. search rules) record-of-requires returns-2)
+pub prepare_spec : {M : Type 1} → statement M
+prepare_spec = tie.close (tie.spec (λ c κs. search rules) (λ c κs. search rules) (λ c κs. search rules) returns (λ c κs. search rules) record-of-requires returns-2)

@@ -11,17 +11,17 @@ use borrow.Author.Rules.{rules}
 use Rattle.link.proofs.prepared.record_of.Statement.{statement}
 use Rattle.link.proofs.prepared.record_of.Tie as tie
 
-first-q-requires : tie.Need-first-q-requires
+first-q-requires : tie.Need-first_q-first-requires
 first-q-requires c κs =
     let start = c.before.before.before.before.before.before in (
       start.requires.0,
-      subst (λ (k : RoundKeys). (10 ≤ k.rounds) × (k.rounds ≤ 14)) (sym c.before.before.expand.ensures) (rounds_in start.args.key.now start.requires.1),
+      subst (λ (k : RoundKeys). (10 ≤ k.rounds) × (k.rounds ≤ 14)) (sym c.before.before.expand-keys.ensures) (rounds_in start.args.key.now start.requires.1),
     )
 
 returns : tie.Need-returns
 returns c =
-    let first = c.before.first_q in
-    let keys = c.before.before.before.before.expand in
+    let first = c.before.first_q-first in
+    let keys = c.before.before.before.before.expand-keys in
     let start = c.before.before.before.before.before.before.before.before in
     let key = start.args.key.now in
     let E-is = ap (λ (k : RoundKeys). cipher k.rounds k.words) keys.ensures ∙ cipher_is key start.requires.1 in
@@ -29,5 +29,5 @@ returns c =
     ap (λ (k : RoundKeys). record { key = record { rounds = k.rounds; words = k.words; zero = first.result.block }; runs = first.result.runs }) keys.ensures
     ∙ ap₂ (λ (z : List ℕ) (n : ℕ). record { key = record { rounds = (expanded key).rounds; words = (expanded key).words; zero = z }; runs = n }) zero_is first.ensures.1
 
-pub record-of-spec : {M : Type 1} → statement M
-record-of-spec = tie.close (tie.spec (λ c κs. search rules) (λ c κs. search rules) first-q-requires returns)
+pub record_of_spec : {M : Type 1} → statement M
+record_of_spec = tie.close (tie.spec (λ c κs. search rules) (λ c κs. search rules) first-q-requires returns)

@@ -18,26 +18,26 @@ use borrow.Author.Rules.{rules}
 use Rattle.link.proofs.under.open.Statement.{statement}
 use Rattle.link.proofs.under.open.Tie as tie
 
-open-requires : tie.Need-open-requires
+open-requires : tie.Need-open-opening-requires
 open-requires c κs =
-    let given = c.before.before.before.before.before.before.before.before.requires in
+    let given = c.before.before.before.before.before.before.before.requires in
     (given.0, (given.1.0, (given.1.1.0, (given.1.1.1.0, given.1.1.1.1.0))))
 
 -- ---- once the passes have answered
-abbrev start_of : tie.After-open → tie.Start
-start_of c = c.before.before.before.before.before.before.before.before.before
+abbrev start_of : tie.After-open-opening → tie.Start
+start_of c = c.before.before.before.before.before.before.before.before
 
 -- what opening finds
-abbrev found : tie.After-open → Opened
+abbrev found : tie.After-open-opening → Opened
 found c =
     let v = (start_of c).args in
-    found_from (cipher_of v.t4) v.t4.zero (edition_of v.edition v.form) v.nonce.now v.ad.now v.tag v.sealed.now
+    found_from (cipher_of v.key) v.key.zero (edition_of v.edition v.form) v.nonce.now v.ad.now v.tag v.sealed.now
 
-runs_are : (c : tie.After-open)
-    → c.«open».result.runs ≡ open_runs_with (start_of c).args.edition (start_of c).args.form (start_of c).args.t4 (start_of c).args.nonce.now (start_of c).args.ad.now (start_of c).args.tag (start_of c).args.sealed.now
-runs_are c = c.«open».ensures.1.1
+runs_are : (c : tie.After-open-opening)
+    → c.open-opening.result.runs ≡ open_runs_with (start_of c).args.edition (start_of c).args.form (start_of c).args.key (start_of c).args.nonce.now (start_of c).args.ad.now (start_of c).args.tag (start_of c).args.sealed.now
+runs_are c = c.open-opening.ensures.1.1
 
-add-ran : tie.Need-overflow-add-ran
+add-ran : tie.Need-overflow_add-ran
 add-ran c =
     let at_open = c.before.before.before in
     let start = start_of at_open in
@@ -46,23 +46,23 @@ add-ran c =
       fits = omega (
         arith,
         runs_are at_open,
-        length-found_from_inputs (cipher_of v.t4) v.t4.zero (edition_of v.edition v.form) v.nonce.now v.ad.now v.tag v.sealed.now,
+        length-found_from_inputs (cipher_of v.key) v.key.zero (edition_of v.edition v.form) v.nonce.now v.ad.now v.tag v.sealed.now,
         start.requires.1.1.1.1.1,
         start.ranges,
       );
     }
 
 -- the promise, for an answer r that goes with what was found
-allowed : (c : tie.After-open) (r : Answer)
-    → r ≡ opened_as (length (start_of c).args.sealed.now - (start_of c).args.tag) ((start_of c).args.before + c.«open».result.runs) (found c)
+allowed : (c : tie.After-open-opening) (r : Answer)
+    → r ≡ opened_as (length (start_of c).args.sealed.now - (start_of c).args.tag) ((start_of c).args.before + c.open-opening.result.runs) (found c)
     → OpensBy (pass (length (start_of c).args.sealed.now - (start_of c).args.tag))
-    ((start_of c).args.before + open_runs_with (start_of c).args.edition (start_of c).args.form (start_of c).args.t4 (start_of c).args.nonce.now (start_of c).args.ad.now (start_of c).args.tag (start_of c).args.sealed.now)
-    (sealing_with (start_of c).args.edition (start_of c).args.form (start_of c).args.t4 (start_of c).args.nonce.now (start_of c).args.ad.now (start_of c).args.tag)
-    (start_of c).args.sealed.now (start_of c).args.out.now r c.«open».new.1.1.1.1.1.1.1.1.1.1.0
+    ((start_of c).args.before + open_runs_with (start_of c).args.edition (start_of c).args.form (start_of c).args.key (start_of c).args.nonce.now (start_of c).args.ad.now (start_of c).args.tag (start_of c).args.sealed.now)
+    (sealing_with (start_of c).args.edition (start_of c).args.form (start_of c).args.key (start_of c).args.nonce.now (start_of c).args.ad.now (start_of c).args.tag)
+    (start_of c).args.sealed.now (start_of c).args.out.now r c.open-opening.new.out
 allowed c r h =
     let start = start_of c in
     let v = start.args in
-    let p = v.t4 in
+    let p = v.key in
     let f = edition_of v.edition v.form in
     let n = length v.sealed.now - v.tag in
     let within = start.requires.1.1.0 in (
@@ -70,20 +70,20 @@ allowed c r h =
       otr_opens (cipher_of p) (is_cipher p.rounds p.words) p.zero f v.nonce.now v.ad.now v.tag (length-ta p.rounds p.words p.zero f v.ad.now)
           within.1.0 within.1.1 v.sealed.now start.requires.1.1.1.0,
       h ∙ ap (λ (k : ℕ). opened_as n (v.before + k) (found c)) (runs_are c),
-      c.«open».ensures.1.0,
+      c.open-opening.ensures.1.0,
     )
 
-returns : tie.Need-returns
+returns : tie.Need-returns-then-opening
 returns c =
     let d = c.before.before.before.before in
     let v = (start_of d).args in
-    allowed d _ (flag_done (length v.sealed.now - v.tag) (v.before + d.«open».result.runs) (found d) (sym d.«open».ensures.0 ∙ c.if1.true))
+    allowed d _ (flag_done (length v.sealed.now - v.tag) (v.before + d.open-opening.result.runs) (found d) (sym d.open-opening.ensures.0 ∙ c.if-opening.true))
 
-returns-2 : tie.Need-returns-2
+returns-2 : tie.Need-returns
 returns-2 c =
     let d = c.before.before.before.before in
     let v = (start_of d).args in
-    allowed d _ (flag_forged (length v.sealed.now - v.tag) (v.before + d.«open».result.runs) (found d) (sym d.«open».ensures.0 ∙ c.if1.false))
+    allowed d _ (flag_forged (length v.sealed.now - v.tag) (v.before + d.open-opening.result.runs) (found d) (sym d.open-opening.ensures.0 ∙ c.if-opening.false))
 
 pub open_spec : {M : Type 1} → statement M
 open_spec = tie.close (tie.spec open-requires add-ran (λ c. search rules) (λ c. search rules) returns (λ c. search rules) returns-2)

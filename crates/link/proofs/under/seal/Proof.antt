@@ -11,31 +11,31 @@ use borrow.Author.Rules.{rules}
 use Rattle.link.proofs.under.seal.Statement.{statement}
 use Rattle.link.proofs.under.seal.Tie as tie
 
-seal-requires : tie.Need-seal-requires
+seal-requires : tie.Need-seal-ran-requires
 seal-requires c κs =
-    let given = c.before.before.before.before.before.before.before.before.requires in
+    let given = c.before.before.before.before.before.before.before.requires in
     (given.0, (given.1.0, (given.1.1.0, given.1.1.1.0)))
 
-add-t20 : tie.Need-overflow-add-t20
+add-t20 : tie.Need-overflow_add-result-2
 add-t20 c =
     let at-seal = c.before.before in
-    let start = at-seal.before.before.before.before.before.before.before.before.before in
+    let start = at-seal.before.before.before.before.before.before.before.before in
     let v = start.args in
     record {
       fits = omega (
         arith,
-        at-seal.seal.ensures.1,
-        length-from_inputs (cipher_of v.t4) v.t4.zero (edition_of v.edition v.form) v.nonce.now v.ad.now v.tag v.message.now,
+        at-seal.seal-ran.ensures.1,
+        length-from_inputs (cipher_of v.key) v.key.zero (edition_of v.edition v.form) v.nonce.now v.ad.now v.tag v.message.now,
         start.requires.1.1.1.1,
-        start.well-formed,
+        start.well_formed,
       );
     }
 
 returns : tie.Need-returns
 returns c =
     let at-seal = c.before.before in
-    let v = at-seal.before.before.before.before.before.before.before.before.before.args in
-    (ap (λ (k : ℕ). Done (length v.message.now + v.tag) (v.before + k)) at-seal.seal.ensures.1, at-seal.seal.ensures.0)
+    let v = at-seal.before.before.before.before.before.before.before.before.args in
+    (ap (λ (k : ℕ). Done (length v.message.now + v.tag) (v.before + k)) at-seal.seal-ran.ensures.1, at-seal.seal-ran.ensures.0)
 
-pub seal-spec : {M : Type 1} → statement M
-seal-spec = tie.close (tie.spec seal-requires (λ c. search rules) add-t20 (λ c. search rules) returns)
+pub seal_spec : {M : Type 1} → statement M
+seal_spec = tie.close (tie.spec seal-requires (λ c. search rules) add-t20 (λ c. search rules) returns)

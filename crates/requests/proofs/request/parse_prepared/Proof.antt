@@ -1,7 +1,7 @@
 -- `requests::request::parse_prepared` meets its contract: the round keys and E(zero) lie in the line that their fields were read from, and
 -- have the lengths that were asked for. Assumes nothing.
 use native.Mathlib.Omega.{arith}
-use borrow.Author.Tests.{eqb-true, not-false}
+use borrow.Author.Tests.{eqb-true}
 use borrow.Author.Rules.{rules}
 use Rattle.requests.proofs.request.parse_prepared.Statement.{statement}
 use Rattle.requests.proofs.request.parse_prepared.Tie as tie
@@ -15,7 +15,7 @@ parse-strings-requires c κs =
       words = omega (arith, p.pair.auto, strings.0);
       zero = omega (arith, p.pair.auto, strings.1);
       words_count = search rules;
-      zero_count = eqb-true _ _ (not-false _ c.before.if2.false);
+      zero_count = eqb-true _ _ (c.before.if2.false);
     }
 
 pub parse-prepared-spec : {M : Type 1} → statement M

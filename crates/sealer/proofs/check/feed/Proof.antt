@@ -3,7 +3,7 @@ use mathlib.Core.Path.{◌≡◌, sym, ap, ◌∙◌}
 use mathlib.Core.Bool.{true}
 use Prim.Native.Nat.{ℕ, ◌+◌, ◌*◌, ◌≤◌, ◌<◌}
 use native.Mathlib.Omega.{arith}
-use borrow.Author.Tests.{le-leb, lt-leb, not-true, not-false}
+use borrow.Author.Tests.{le-leb, lt-leb}
 use Rattle.mode.specs.Message.{pairs_of}
 use Rattle.mode.specs.Feeding.{keeps}
 use Rattle.mode.proofs.Counts.{pairs-within}
@@ -15,11 +15,11 @@ use Rattle.sealer.proofs.check.feed.Statement.{statement}
 use Rattle.sealer.proofs.check.feed.Tie as tie
 
 goes : (c : tie.Else1) → going_on c.before.before.args.rounds c.before.before.args.tag c.before.before.args.fed ≡ true
-goes c = sym c.before.goes_on.ensures ∙ not-false c.before.goes_on.result c.if1.false
+goes c = sym c.before.goes_on.ensures ∙ c.if1.false
 
 returns : tie.Need-returns
 unfolding feed_check
-returns c = sym (rw (sym c.before.goes_on.ensures ∙ not-true c.before.goes_on.result c.if1.true))
+returns c = sym (rw (sym c.before.goes_on.ensures ∙ c.if1.true))
 
 is-going : (c : tie.Else1) → Going c.before.before.args.rounds c.before.before.args.tag c.before.before.args.fed
 is-going c = going _ _ _ (goes c)
