@@ -55,6 +55,6 @@ module _ (edition : ℕ) (old : Settings) (t : ℕ) (s : List ℕ) (new : Settin
   carried_from f m is p = go (result p)
     where
       go : Result → Over m
-      go (over g n o) = subst Over (sealing_injective edition old t f.old-side.nonces.1 f.old-side.tags.1 n m (o.seals ∙ sym is)) o
+      go (over g n o) = subst Over (sealing_injective edition old t f.old_side.nonces.1 f.old_side.tags.1 n m (o.seals ∙ sym is)) o
       go (forged g o) = absurd (o.none m is)
       go (refusal side c some e q) = absurd (passed_or_stopped side c (sym (passes_all edition old t s new out work f) ∙ e))

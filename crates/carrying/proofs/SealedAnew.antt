@@ -105,7 +105,7 @@ module _ (edition : ℕ) (old : Settings) (t : ℕ) (s : List ℕ) (new : Settin
     unfolding Opens
     opened r holds =
         subst (λ (c : Check). OpensBy c (open_runs_on edition old t s) (sealing_on edition old t) s work r holds)
-        (open_passes edition old.form (known_key (length old.key)) (length old.nonce) t (length old.ad) f.old-side (length s) (length work) f.least f.most f.work-room)
+        (open_passes edition old.form (known_key (length old.key)) (length old.nonce) t (length old.ad) f.old_side (length s) (length work) f.least f.most f.work_room)
 
     -- one that is not done is 7: no message was sealed to the record
     pub none_found : (r : Answer) (holds : List ℕ) → Opens edition old.form old.key old.nonce old.ad s t work r holds → ((n j : ℕ) → r ≡ Done n j → ⊥)
@@ -123,7 +123,7 @@ module _ (edition : ℕ) (old : Settings) (t : ℕ) (s : List ℕ) (new : Settin
         go : OpensBy (pass (length s - t)) (open_runs_on edition old t s) (sealing_on edition old t) s work r holds → Found edition old t s work n j holds
         go (accepted m, a, is, b) =
             let n_is : n ≡ length s - t = sym (ap length_of done_is) ∙ ap length_of is in
-            let s_long : length s ≡ length m + t = sym (ap length a) ∙ sealed_long edition old t f.old-side.nonces.1 f.old-side.tags.1 m in
+            let s_long : length s ≡ length m + t = sym (ap length a) ∙ sealed_long edition old t f.old_side.nonces.1 f.old_side.tags.1 m in
             record { message = m; seals = a; long = omega arith; bytes = n_is; runs = sym (ap runs_of done_is) ∙ ap runs_of is; stands = b }
         go (refused, a, is, b) =
             let zero_is : number_of r ≡ 0 = ap number_of done_is in
@@ -133,7 +133,7 @@ module _ (edition : ℕ) (old : Settings) (t : ℕ) (s : List ℕ) (new : Settin
     -- ---- the sealing anew of what was found, and the clearing
     module _ (n j : ℕ) (holds : List ℕ) (g : Found edition old t s work n j holds) where
       fits_work : 0 + length g.message ≤ length work
-      fits_work = omega (arith, g.long, g.bytes, f.work-room)
+      fits_work = omega (arith, g.long, g.bytes, f.work_room)
 
       front : take n holds ≡ g.message
       front =
@@ -145,7 +145,7 @@ module _ (edition : ℕ) (old : Settings) (t : ℕ) (s : List ℕ) (new : Settin
         unfolding Seals
         anew =
             subst (λ (c : Check). SealsBy c (seal_runs_on (other edition) new t g.message) (sealing_on (other edition) new t g.message) out r after)
-            (seal_passes (other edition) new.form (known_key (length new.key)) (length new.nonce) t (length new.ad) f.new-side (length g.message) (length out)
+            (seal_passes (other edition) new.form (known_key (length new.key)) (length new.nonce) t (length new.ad) f.new_side (length g.message) (length out)
             (omega (arith, g.long, g.bytes, f.most)) (omega (arith, g.long, g.bytes, f.least, f.room)))
             (subst (λ (m : List ℕ). Seals (other edition) new.form new.key new.nonce new.ad m t out r after) front p)
 
@@ -155,8 +155,8 @@ module _ (edition : ℕ) (old : Settings) (t : ℕ) (s : List ℕ) (new : Settin
               arith,
               g.runs,
               ap runs_of anew.0,
-              open_few edition old t f.old-side.nonces.1 f.old-side.tags.1 f.old-side.data-most s (omega (arith, f.most)),
-              seal_few (other edition) new t f.new-side.nonces.1 f.new-side.tags.1 f.new-side.data-most g.message (omega (arith, g.long, g.bytes, f.most)),
+              open_few edition old t f.old_side.nonces.1 f.old_side.tags.1 f.old_side.data_most s (omega (arith, f.most)),
+              seal_few (other edition) new t f.new_side.nonces.1 f.new_side.tags.1 f.new_side.data_most g.message (omega (arith, g.long, g.bytes, f.most)),
             )
 
         pub carried_over : (cleared : List ℕ) → cleared ≡ lay 0 (zeros n) holds

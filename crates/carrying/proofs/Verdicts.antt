@@ -95,12 +95,12 @@ module _ (edition : ℕ) (old : Settings) (t : ℕ) (s : List ℕ) (new : Settin
   unfolding carry_check
   passes_all f =
       rw (
-        lets_by_all edition old.form (known_key (length old.key)) (length old.nonce) t (length old.ad) f.old-side (unless (from_to t (16384 + t) (length s)) Length (pass 0)),
-        lets_by_all (other edition) new.form (known_key (length new.key)) (length new.nonce) t (length new.ad) f.new-side (pass 0),
+        lets_by_all edition old.form (known_key (length old.key)) (length old.nonce) t (length old.ad) f.old_side (unless (from_to t (16384 + t) (length s)) Length (pass 0)),
+        lets_by_all (other edition) new.form (known_key (length new.key)) (length new.nonce) t (length new.ad) f.new_side (pass 0),
         in_range t (16384 + t) (length s) f.least f.most,
         le-leb (length s) (length out) f.room,
-        le-leb (length s - t) (length work) f.work-room,
-        f.keys-differ,
+        le-leb (length s - t) (length work) f.work_room,
+        f.keys_differ,
       )
 
 -- ---- the answer as the code puts it together: a refusal on its side; the checks that come next; and the last

@@ -14,8 +14,8 @@ sealer w z k = record { rounds = 0; words = w; state = record { left = z; right 
 returns : tie.Need-returns
 unfolding sealer
 returns c =
-    ap₂ (λ (w k : List ℕ). sealer w c.before.zeros.result k) c.before.before.blank.ensures c.blank2.ensures
-    ∙ ap (λ (z : List ℕ). sealer (zeros 240) z (zeros 32)) c.before.zeros.ensures
+    ap₂ (λ (w k : List ℕ). sealer w c.before.zeros-z.result k) c.before.before.blank-w.ensures c.blank-kept.ensures
+    ∙ ap (λ (z : List ℕ). sealer (zeros 240) z (zeros 32)) c.before.zeros-z.ensures
 
-pub ended-spec : {M : Type 1} → statement M
-ended-spec = tie.close (tie.spec (λ c κs. search rules) (λ c κs. search rules) (λ c κs. search rules) returns)
+pub ended_spec : {M : Type 1} → statement M
+ended_spec = tie.close (tie.spec (λ c κs. search rules) (λ c κs. search rules) (λ c κs. search rules) returns)

@@ -18,16 +18,16 @@ use Rattle.sealer.specs.declared.Step.{Step}
 use Rattle.sealer.proofs.start.Statement.{statement}
 use Rattle.sealer.proofs.start.Tie as tie
 
-add-t22 : tie.Need-overflow-add-t22
+add-t22 : tie.Need-overflow_add-answer
 add-t22 c =
-    let with = c.before.before.before.before.before.before.seals-with in
-    let start = c.before.before.before.before.before.before.before.before.before.before.before.before.before in
+    let with = c.before.before.before.before.before.before.seals_with-with in
+    let start = c.before.before.before.before.before.before.before.before.before.before.before.before in
     let v = start.args in
     record {
       fits = omega (
         arith,
         with.ensures.1.1,
-        length-call_inputs (cipher_of v.t3) v.t3.zero (v3 (form_of v.form)) v.nonce.now v.ad.now v.tag,
+        length-call_inputs (cipher_of v.key) v.key.zero (v3 (form_of v.form)) v.nonce.now v.ad.now v.tag,
         start.requires.1.1.1,
       );
     }
@@ -43,9 +43,9 @@ step p t runs l r s k a =
 returns : tie.Need-returns
 unfolding step
 returns c =
-    let with = c.before.before.before.before.before.before.seals-with in
-    let v = c.before.before.before.before.before.before.before.before.before.before.before.before.before.args in
-    let p = v.t3 in
+    let with = c.before.before.before.before.before.before.seals_with-with in
+    let v = c.before.before.before.before.before.before.before.before.before.before.before.before.args in
+    let p = v.key in
     let U = u (cipher_of p) p.zero (v3 (form_of v.form)) v.nonce.now v.ad.now v.tag in
     let R = c.before.before.before.triple.result in
     let Z = c.before.before.zeros.result in

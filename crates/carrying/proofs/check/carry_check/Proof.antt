@@ -13,7 +13,7 @@ use borrow.Author.Rules.{rules}
 use Rattle.carrying.proofs.check.carry_check.Statement.{statement}
 use Rattle.carrying.proofs.check.carry_check.Tie as tie
 
-abbrev start_of : tie.After-old-check → tie.Start
+abbrev start_of : tie.After-old_check-old → tie.Start
 start_of c = c.before.before.before
 
 -- the checks of each side, and what comes after the old side's and after the new side's
@@ -41,50 +41,50 @@ old-came c =
     old_verdict v.edition v.form (length v.key.now) v.nonce v.tag v.ad v.sealed
 
 -- they have passed
-number-0 : (c : tie.Else1) → number_of c.before.before.old-check.result ≡ 0
-number-0 c = sym c.before.number.ensures ∙ c.if1.false
+number-0 : (c : tie.Else-number-ne0) → number_of c.before.before.old_check-old.result ≡ 0
+number-0 c = sym c.before.number.ensures ∙ c.if-number-ne0.false
 
-old-passed : (c : tie.Else1) → of Old (olds (start_of c.before.before)) (rest (start_of c.before.before)) ≡ rest (start_of c.before.before)
+old-passed : (c : tie.Else-number-ne0) → of Old (olds (start_of c.before.before)) (rest (start_of c.before.before)) ≡ rest (start_of c.before.before)
 old-passed c =
     let at_old = c.before.before in
     let start = start_of at_old in
-    goes_on Old (old-came start) (rest start) at_old.old-check.result at_old.old-check.ensures (number-0 c)
+    goes_on Old (old-came start) (rest start) at_old.old_check-old.result at_old.old_check-old.ensures (number-0 c)
 
-new-passed : (c : tie.Else2) → rest (start_of c.before.before.before.before.before) ≡ last (start_of c.before.before.before.before.before)
+new-passed : (c : tie.Else-number-ne0-2) → rest (start_of c.before.before.before.before.before) ≡ last (start_of c.before.before.before.before.before)
 new-passed c =
     let at_new = c.before.before in
     let start = start_of at_new.before.before.before in
     let v = start.args in
-    goes_on New (new_verdict v.edition v.form2 (length v.key2.now) v.nonce2 v.tag v.ad2) (last start) at_new.new-check.result at_new.new-check.ensures
-    (sym c.before.number2.ensures ∙ c.if2.false)
+    goes_on New (new_verdict v.edition v.form2 (length v.key2.now) v.nonce2 v.tag v.ad2) (last start) at_new.new_check-new.result at_new.new_check-new.ensures
+    (sym c.before.number-2.ensures ∙ c.if-number-ne0-2.false)
 
-returns : tie.Need-returns
+returns : tie.Need-returns-then-number-ne0
 returns c =
     let at_old = c.before.before in
     let start = start_of at_old in
-    refuses Old (olds start) (rest start) at_old.old-check.result at_old.old-check.ensures (λ z. c.if1.true (c.before.number.ensures ∙ z))
+    refuses Old (olds start) (rest start) at_old.old_check-old.result at_old.old_check-old.ensures (λ z. c.if-number-ne0.true (c.before.number.ensures ∙ z))
 
-returns-2 : tie.Need-returns-2
+returns-2 : tie.Need-returns-then-number-ne0-2
 returns-2 c =
     let at_new = c.before.before in
     let start = start_of at_new.before.before.before in
-    refuses New (news start) (last start) at_new.new-check.result at_new.new-check.ensures (λ z. c.if2.true (c.before.number2.ensures ∙ z))
+    refuses New (news start) (last start) at_new.new_check-new.result at_new.new_check-new.ensures (λ z. c.if-number-ne0-2.true (c.before.number-2.ensures ∙ z))
     ∙ sym (ap as_carried (old-passed at_new.before))
 
-room-check-requires : tie.Need-room-check-requires
+room-check-requires : tie.Need-room_check-answer-requires
 room-check-requires c κs =
     let e = c.before.before.before in
     let at_old = e.before.before in
-    (went_on (old-came (start_of at_old)) at_old.old-check.result at_old.old-check.ensures (number-0 e)).0.1
+    (went_on (old-came (start_of at_old)) at_old.old_check-old.result at_old.old_check-old.ensures (number-0 e)).0.1
 
-returns-3 : tie.Need-returns-3
+returns-3 : tie.Need-returns
 returns-3 c =
     let e = c.before in
     let v = (start_of e.before.before.before.before.before).args in
-    ends (room_verdict v.tag v.sealed v.room v.work (not (same v.key.now v.key2.now))) c.room-check.result c.room-check.ensures
+    ends (room_verdict v.tag v.sealed v.room v.work (not (same v.key.now v.key2.now))) c.room_check-answer.result c.room_check-answer.ensures
     ∙ sym (ap as_carried (old-passed e.before.before.before ∙ new-passed e))
 
-pub carry-check-spec : {M : Type 1} → statement M
-carry-check-spec =
+pub carry_check_spec : {M : Type 1} → statement M
+carry_check_spec =
     tie.close
     (tie.spec (λ c κs. search rules) (λ c κs. search rules) returns (λ c κs. search rules) (λ c κs. search rules) returns-2 room-check-requires returns-3)

@@ -11,8 +11,8 @@ returns : tie.Need-returns
 returns c =
     let at_key = c.before.before in
     let v = at_key.before.args in
-    c.call-check.ensures
-    ∙ ap₂ (λ (e : ℕ) (k : Bool). as_answer (call_check e v.form k v.nonce v.tag v.ad (pass 0))) c.before.other-edition.ensures at_key.known-key.ensures
+    c.call_check.ensures
+    ∙ ap₂ (λ (e : ℕ) (k : Bool). as_answer (call_check e v.form k v.nonce v.tag v.ad (pass 0))) c.before.other_edition.ensures at_key.known_key-known.ensures
 
-pub new-check-spec : {M : Type 1} → statement M
-new-check-spec = tie.close (tie.spec (λ c κs. search rules) (λ c κs. search rules) (λ c κs. search rules) returns)
+pub new_check_spec : {M : Type 1} → statement M
+new_check_spec = tie.close (tie.spec (λ c κs. search rules) (λ c κs. search rules) (λ c κs. search rules) returns)

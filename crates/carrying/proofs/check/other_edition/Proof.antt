@@ -11,5 +11,5 @@ not-1 zero h = refl
 not-1 (suc zero) h = absurd (h refl)
 not-1 (suc (suc n)) h = refl
 
-pub other-edition-spec : {M : Type 1} → statement M
-other-edition-spec = tie.close (tie.spec (λ c. search rules) (λ c. not-1 c.before.args.edition c.match.rest.1))
+pub other_edition_spec : {M : Type 1} → statement M
+other_edition_spec = tie.close (tie.spec (λ c. search rules) (λ c. not-1 c.before.args.edition c.in-1.rest.1))

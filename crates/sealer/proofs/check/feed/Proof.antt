@@ -14,60 +14,60 @@ use Rattle.sealer.proofs.Verdicts.{Going, going, keeps_most}
 use Rattle.sealer.proofs.check.feed.Statement.{statement}
 use Rattle.sealer.proofs.check.feed.Tie as tie
 
-goes : (c : tie.Else1) → going_on c.before.before.args.rounds c.before.before.args.tag c.before.before.args.fed ≡ true
-goes c = sym c.before.goes_on.ensures ∙ c.if1.false
+goes : (c : tie.Else-not-goes_on) → going_on c.before.before.args.rounds c.before.before.args.tag c.before.before.args.fed ≡ true
+goes c = sym c.before.goes_on.ensures ∙ c.if-not-goes_on.false
 
-returns : tie.Need-returns
+returns : tie.Need-returns-then-not-goes_on
 unfolding feed_check
-returns c = sym (rw (sym c.before.goes_on.ensures ∙ c.if1.true))
+returns c = sym (rw (sym c.before.goes_on.ensures ∙ c.if-not-goes_on.true))
 
-is-going : (c : tie.Else1) → Going c.before.before.args.rounds c.before.before.args.tag c.before.before.args.fed
+is-going : (c : tie.Else-not-goes_on) → Going c.before.before.args.rounds c.before.before.args.tag c.before.before.args.fed
 is-going c = going _ _ _ (goes c)
 
-sub-if2 : tie.Need-overflow-sub-if2
+sub-if2 : tie.Need-overflow_sub-fed
 sub-if2 c = (is-going c).most
 
-returns-2 : tie.Need-returns-2
+returns-2 : tie.Need-returns-then-fed-part
 unfolding feed_check
 returns-2 c =
     let v = c.before.before.before.args in
-    let long : 16384 < v.fed + v.part = omega (arith, c.if2.true, (is-going c.before).most) in
+    let long : 16384 < v.fed + v.part = omega (arith, c.if-fed-part.true, (is-going c.before).most) in
     sym (rw (goes c.before, lt-leb (v.fed + v.part) 16384 long))
 
 -- the pairs that are due
-abbrev else-of : tie.After-pairs-of → tie.Else2
+abbrev else-of : tie.After-pairs_of-due → tie.Else-fed-part
 else-of c = c.before.before
 
-abbrev start_of : tie.After-pairs-of → tie.Start
+abbrev start_of : tie.After-pairs_of-due → tie.Start
 start_of c = (else-of c).before.before.before
 
-due-is : (c : tie.After-pairs-of) → c.pairs_of.result ≡ pairs_of (keeps (start_of c).args.fed + (start_of c).args.part)
-due-is c = c.pairs_of.ensures ∙ ap (λ (n : ℕ). pairs_of (n + (start_of c).args.part)) c.before.kept.ensures
+due-is : (c : tie.After-pairs_of-due) → c.pairs_of-due.result ≡ pairs_of (keeps (start_of c).args.fed + (start_of c).args.part)
+due-is c = c.pairs_of-due.ensures ∙ ap (λ (n : ℕ). pairs_of (n + (start_of c).args.part)) c.before.kept.ensures
 
-long-in : (c : tie.Else2) → c.before.before.before.args.fed + c.before.before.before.args.part ≤ 16384
-long-in c = omega (arith, c.if2.false, (is-going c.before).most)
+long-in : (c : tie.Else-fed-part) → c.before.before.before.args.fed + c.before.before.before.args.part ≤ 16384
+long-in c = omega (arith, c.if-fed-part.false, (is-going c.before).most)
 
-mul-due : tie.Need-overflow-mul-due
+mul-due : tie.Need-overflow_mul-due
 mul-due c =
     let v = (start_of c).args in
     record { fits = omega (arith, due-is c, pairs-within (keeps v.fed + v.part), keeps_most v.fed, long-in (else-of c)) }
 
-returns-3 : tie.Need-returns-3
+returns-3 : tie.Need-returns-then-room-due
 unfolding feed_check
 returns-3 c =
     let e = else-of c.before in
     let v = (start_of c.before).args in
-    let short : v.room < 32 * pairs_of (keeps v.fed + v.part) = omega (arith, due-is c.before, c.if3.true) in
+    let short : v.room < 32 * pairs_of (keeps v.fed + v.part) = omega (arith, due-is c.before, c.if-room-due.true) in
     sym (rw (goes e.before, le-leb (v.fed + v.part) 16384 (long-in e), lt-leb (32 * pairs_of (keeps v.fed + v.part)) v.room short))
 
-returns-4 : tie.Need-returns-4
+returns-4 : tie.Need-returns
 unfolding feed_check
 returns-4 c =
     let e = else-of c.before in
     let v = (start_of c.before).args in
-    let fits : 32 * pairs_of (keeps v.fed + v.part) ≤ v.room = omega (arith, due-is c.before, c.if3.false) in
+    let fits : 32 * pairs_of (keeps v.fed + v.part) ≤ v.room = omega (arith, due-is c.before, c.if-room-due.false) in
     ap (λ (n : ℕ). Done (32 * n) 0) (due-is c.before)
     ∙ sym (rw (goes e.before, le-leb (v.fed + v.part) 16384 (long-in e), le-leb (32 * pairs_of (keeps v.fed + v.part)) v.room fits))
 
-pub feed-spec : {M : Type 1} → statement M
-feed-spec = tie.close (tie.spec (λ c κs. search rules) returns sub-if2 returns-2 (λ c κs. search rules) (λ c. search rules) (λ c κs. search rules) mul-due returns-3 returns-4)
+pub feed_spec : {M : Type 1} → statement M
+feed_spec = tie.close (tie.spec (λ c κs. search rules) returns sub-if2 returns-2 (λ c κs. search rules) (λ c. search rules) (λ c κs. search rules) mul-due returns-3 returns-4)
