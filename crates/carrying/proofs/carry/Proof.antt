@@ -51,7 +51,7 @@ returns-2 c =
     let e = over.before.before.before in
     let v = (began e).args in
     come_to v.edition (old (began e)) v.tag v.sealed.now (new (began e)) v.out.now v.work.now (have-passed e) over.carry_over.result
-    over.carry_over.new.work over.carry_over.new.work over.carry_over.ensures
+    over.carry_over.new.out over.carry_over.new.work over.carry_over.ensures
 
 pub carry_spec : {M : Type 1} → statement M
 carry_spec =

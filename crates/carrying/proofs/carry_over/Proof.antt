@@ -44,7 +44,7 @@ returns c =
     let start = start_of at_open in
     let v = start.args in
     none_found v.edition (old start) v.tag v.sealed.now (new start) v.out.now v.work.now (fits start) at_open.open-opened.result at_open.open-opened.new.out at_open.open-opened.ensures
-    (λ n j is. miss others 0 tt (rw is at c.in-Done.keys2))
+    (λ n j is. absurd (c.in_default.not-Done n j is))
 
 -- ---- it is done
 abbrev open_of : tie.In-Done-2 → tie.After-open-opened
@@ -58,10 +58,10 @@ abbrev holds : tie.In-Done-2 → List ℕ
 holds c = (open_of c).open-opened.new.out
 
 abbrev n : tie.In-Done-2 → ℕ
-n c = c.before.in-Done.length
+n c = c.in-Done.length
 
 abbrev j : tie.In-Done-2 → ℕ
-j c = c.before.in-Done.runs
+j c = c.in-Done.runs
 
 message-found : (c : tie.In-Done-2)
     → Found (start-from c).args.edition (old (start-from c)) (start-from c).args.tag (start-from c).args.sealed.now (start-from c).args.work.now (n c) (j c) (holds c)

@@ -37,8 +37,8 @@ keep-requires c κs =
     let v = (start_of at_count).args in
     omega (arith, due-is at_count, held-is at_count, c.if-n-eq0.true, rest_most (keeps v.self.fed + length v.part.now))
 
-kept-long : (c : tie.Start) → length c.args.self.state.kept-held ≡ 32
-kept-long c = search (rules, c.well-formed)
+kept-long : (c : tie.Start) → length c.args.self.state.kept ≡ 32
+kept-long c = search (rules, c.well_formed)
 
 -- the sealer that comes back, with the state a
 given : Sealer → State → List ℕ → Sealer
@@ -53,9 +53,9 @@ returns c =
     let x = v.part.now in
     let E = cipher s.rounds s.words in
     let k = doubled s.state.left s.state.right in
-    let y = take (keeps s.fed) s.state.kept-held ++ x in
+    let y = take (keeps s.fed) s.state.kept ++ x in
     let none : pairs_of (keeps s.fed + length x) ≡ 0 = sym (due-is at_count) ∙ c.before.if-n-eq0.true in
-    let none-due : pairs_of (length y) ≡ 0 = ap pairs_of (hand_long s.state.kept-held (kept-long (start_of at_count)) (keeps s.fed) (keeps_most s.fed) x) ∙ none in (
+    let none-due : pairs_of (length y) ≡ 0 = ap pairs_of (hand_long s.state.kept (kept-long (start_of at_count)) (keeps s.fed) (keeps_most s.fed) x) ∙ none in (
       ap (λ (a : State). record { answer = Done 0 0; sealer = given s a x }) (c.keep-next.ensures ∙ ap (λ (n : ℕ). fed_state s.state n x) (held-is at_count))
           ∙ ap₂ (λ (a b : ℕ). record { answer = Done (32 * a) (length (pairs_inputs E k b y)); sealer = fed_by s x }) (sym none) (sym none-due),
       sym (ap (λ (n : ℕ). lay 0 (pairs E k n y) v.out.now) none-due ∙ front_none v.out.now),
