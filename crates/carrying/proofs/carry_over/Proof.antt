@@ -47,23 +47,23 @@ returns c =
     (λ n j is. absurd (c.in_default.not-Done n j is))
 
 -- ---- it is done
-abbrev open_of : tie.In-Done-2 → tie.After-open-opened
-open_of c = c.before.before.before.before
+abbrev open_of : tie.In-Done → tie.After-open-opened
+open_of c = c.before.before.before
 
-abbrev start-from : tie.In-Done-2 → tie.Start
+abbrev start-from : tie.In-Done → tie.Start
 start-from c = start_of (open_of c)
 
 -- what the work buffer holds, how many bytes of it the message has, and the runs
-abbrev holds : tie.In-Done-2 → List ℕ
+abbrev holds : tie.In-Done → List ℕ
 holds c = (open_of c).open-opened.new.out
 
-abbrev n : tie.In-Done-2 → ℕ
+abbrev n : tie.In-Done → ℕ
 n c = c.in-Done.length
 
-abbrev j : tie.In-Done-2 → ℕ
+abbrev j : tie.In-Done → ℕ
 j c = c.in-Done.runs
 
-message-found : (c : tie.In-Done-2)
+message-found : (c : tie.In-Done)
     → Found (start-from c).args.edition (old (start-from c)) (start-from c).args.tag (start-from c).args.sealed.now (start-from c).args.work.now (n c) (j c) (holds c)
 message-found c =
     let at_open = open_of c in
@@ -72,20 +72,20 @@ message-found c =
     c.in-Done.is at_open.open-opened.ensures
 
 -- it stands in the work buffer, which is as long as before
-message-fits : (c : tie.In-Done-2) → n c ≤ length (holds c)
-message-fits c = omega (arith, (message-found c).bytes, (fits (start-from c)).work-room, (open_of c).open-opened.auto)
+message-fits : (c : tie.In-Done) → n c ≤ length (holds c)
+message-fits c = omega (arith, (message-found c).bytes, (fits (start-from c)).work_room, (open_of c).open-opened.auto)
 
 slice-reshare-prefix-seal : tie.Need-slice_bounds-seal-end
-slice-reshare-prefix-seal c = message-fits c.before.before
+slice-reshare-prefix-seal c = message-fits c.before
 
 slice-aggregate-seal : tie.Need-slice_bounds-seal-end-2
 slice-aggregate-seal c =
-    let at-opened = c.before.before.before in
+    let at-opened = c.before in
     sym (length-take-le (n at-opened) (holds at-opened) (message-fits at-opened))
 
 -- ---- it is sealed anew
-abbrev opened_of : tie.After-seal-anew → tie.In-Done-2
-opened_of c = c.before.before.before.before
+abbrev opened_of : tie.After-seal-anew → tie.In-Done
+opened_of c = c.before.before.before
 
 abbrev after : tie.After-seal-anew → List ℕ
 after c = c.seal-anew.new.out
@@ -96,7 +96,7 @@ sealed-by c =
     let o = opened_of c in
     let v = (start-from o).args in
     subst (λ (e : ℕ). Seals e v.form2 v.key2.now v.nonce2.now v.ad2.now (take (n o) (holds o)) v.tag v.out.now c.seal-anew.result (after c))
-    c.before.before.before.other_edition-edition2.ensures c.seal-anew.ensures
+    c.before.before.other_edition-edition2.ensures c.seal-anew.ensures
 
 clear-requires : tie.Need-clear-requires
 clear-requires c κs = omega (arith, message-fits (opened_of c.before.before.before))
@@ -126,7 +126,7 @@ returns-2 c =
     let start = start-from o in
     let v = start.args in
     let at_clear = c.before.before.before in
-    let cleared = at_clear.clear.new.0 in
+    let cleared = at_clear.clear.new.out in
     subst (λ (k : ℕ). CarriesBy v.edition (old start) v.tag v.sealed.now (new start) v.out.now v.work.now (record { side = Neither; answer = Done (length v.sealed.now) (j o + k) }) (after at-seal) cleared passed)
     (sym c.runs.ensures)
     (carried_over v.edition (old start) v.tag v.sealed.now (new start) v.out.now v.work.now (fits start) (n o) (j o) (holds o) (message-found o) at-seal.seal-anew.result (after at-seal) (sealed-by at-seal) cleared
