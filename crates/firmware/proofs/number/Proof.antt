@@ -17,10 +17,10 @@ at-most-13 r (refusal most none runs stands) = most
 number_is : (c : tie.After-number) → c.number.result ≡ number_of c.before.args.answer
 number_is c = c.number.ensures
 
-cast-result : tie.Need-overflow-cast-result
+cast-result : tie.Need-overflow_cast-result
 cast-result c =
     let r = c.before.args.answer in
     record { fits = omega (arith, number_is c, at-most-13 r (answered r)) }
 
-pub number-spec : {M : Type 1} → statement M
-number-spec = tie.close (tie.spec (λ c κs. search rules) cast-result number_is)
+pub number_spec : {M : Type 1} → statement M
+number_spec = tie.close (tie.spec (λ c κs. search rules) cast-result number_is)
