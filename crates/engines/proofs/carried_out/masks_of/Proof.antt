@@ -14,13 +14,13 @@ returns c =
     let at-double = c.before in
     let at-mask = at-double.before in
     let v = at-mask.before.args in
-    let left = at-mask.mask.ensures in (
+    let left = at-mask.mask-l.ensures in (
       left,
-      c.xor-words.ensures
-          ∙ ap (λ x. xor x (bytes_of at-mask.mask.result)) at-double.double-words.ensures
+      c.xor_words.ensures
+          ∙ ap (λ x. xor x (bytes_of at-mask.mask-l.result)) at-double.double_words-twice.ensures
           ∙ ap triple left
           ∙ sym (doubles-triple v.i (bytes_of v.u) (words_block v.u)),
     )
 
-pub masks-of-spec : {M : Type 1} → statement M
-masks-of-spec = tie.close (tie.spec (λ c κs. search rules) (λ c κs. search rules) (λ c κs. search rules) returns)
+pub masks_of_spec : {M : Type 1} → statement M
+masks_of_spec = tie.close (tie.spec (λ c κs. search rules) (λ c κs. search rules) (λ c κs. search rules) returns)
