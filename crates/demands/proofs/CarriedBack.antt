@@ -96,8 +96,8 @@ module _ (edition : ℕ) (old : Settings) (t : ℕ) (s : List ℕ) (new : Settin
       omega (
         arith,
         ap length o.seals,
-        sealed_long edition old t f.old-side.nonces.1 f.old-side.tags.1 m,
-        sealed_long (other edition) new t f.new-side.nonces.1 f.new-side.tags.1 m,
+        sealed_long edition old t f.old_side.nonces.1 f.old_side.tags.1 m,
+        sealed_long (other edition) new t f.new_side.nonces.1 f.new_side.tags.1 m,
       ) in
       let front : take (length s) after ≡ anew = ap (take (length s)) o.writes ∙ ap (λ (n : ℕ). take n (lay 0 anew out)) long ∙ take-lay 0 anew out (omega (arith, f.room, long)) in
-      back m o.seals (take (length s) after) front f.old-side f.new-side f.keys-differ f.least f.most out' work' room work_room r' after' cleared'
+      back m o.seals (take (length s) after) front f.old_side f.new_side f.keys_differ f.least f.most out' work' room work_room r' after' cleared'

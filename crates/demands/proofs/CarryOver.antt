@@ -157,8 +157,8 @@ module _ (edition : ℕ) (old : Settings) (t : ℕ) (s : List ℕ) (new : Settin
       × (length_of r.answer ≡ length (sealing_on (other edition) new t m))
   carried z =
       let (f, m, o) = is_over z in
-      let old_side = f.old-side in
-      let new_side = f.new-side in
+      let old_side = f.old_side in
+      let new_side = f.new_side in
       let s_long : length s ≡ length m + t = sym (ap length o.seals) ∙ sealed_long edition old t old_side.nonces.1 old_side.tags.1 m in (
         m,
         o.seals,
@@ -184,7 +184,7 @@ module _ (edition : ℕ) (old : Settings) (t : ℕ) (s : List ℕ) (new : Settin
       → runs_of r.answer ≡ formula (edition_of edition old.form) (length s - t) (length old.ad) + formula (edition_of (other edition) new.form) (length s - t) (length new.ad)
   runs_over z =
       let (f, m, o) = is_over z in
-      let long : length m ≡ length s - t = omega (arith, sym (ap length o.seals) ∙ sealed_long edition old t f.old-side.nonces.1 f.old-side.tags.1 m) in
+      let long : length m ≡ length s - t = omega (arith, sym (ap length o.seals) ∙ sealed_long edition old t f.old_side.nonces.1 f.old_side.tags.1 m) in
       ap (λ (x : Carried). runs_of x.answer) o.answers
       ∙ ap₂ ◌+◌ (open_runs_lem edition old.form old.key old.nonce old.ad t s)
       (seal_runs_lem (other edition) new.form new.key new.nonce new.ad t m ∙ ap (λ (n : ℕ). formula (edition_of (other edition) new.form) n (length new.ad)) long)
@@ -219,7 +219,7 @@ module _ (edition : ℕ) (old : Settings) (t : ℕ) (s : List ℕ) (new : Settin
       one : carry_check edition old t s new out work ≡ passed → (o q : Opened) → Allowed (sealing_on edition old t) s o → Allowed (sealing_on edition old t) s q → o ≡ q
       one come =
           let f = fits_of edition old t s new out work come in
-          one_answer edition old t f.old-side.nonces.1 f.old-side.tags.1 s
+          one_answer edition old t f.old_side.nonces.1 f.old_side.tags.1 s
 
 -- ---- what was sealed within the limits is carried over, given room and another key
 module _ (edition : ℕ) (old : Settings) (t : ℕ) (new : Settings) (out work : List ℕ) (m : List ℕ) (short : length m ≤ 16384) (room : length m + t ≤ length out) (work_room : length m ≤ length work)

@@ -48,7 +48,7 @@ module _ (edition form : ℕ) (known : Bool) (nonce t ad : ℕ) (is : known ≡ 
       }
 
   pub seal_passes : (m o : ℕ) → m ≤ 16384 → m + t ≤ o → call_check edition form known nonce t ad (seal_next t m o) ≡ pass (m + t)
-  seal_passes = Verdicts.seal-passes edition form known nonce t ad within
+  seal_passes = Verdicts.seal_passes edition form known nonce t ad within
 
   pub open_passes : (s o : ℕ) → t ≤ s → s ≤ 16384 + t → s - t ≤ o → call_check edition form known nonce t ad (open_next t s o) ≡ pass (s - t)
-  open_passes = Verdicts.open-passes edition form known nonce t ad within
+  open_passes = Verdicts.open_passes edition form known nonce t ad within
