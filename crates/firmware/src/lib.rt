@@ -1,5 +1,5 @@
-// The link for the mount's firmware, which is C and calls with numbers and byte buffers (document 02, wish 2). A slice comes as a
-// pointer and a length; what its caller owes is in include/shaftladder.h. The number alone is the answer: specs/Numbered.antt.
+// The link for the mount's firmware, which is C and calls with numbers and byte buffers (document 02, wish 2): crate firmware_c exports
+// the two calls. The number alone is the answer: specs/Numbered.antt.
 ghost use Rattle.std.specs.Prelude.{◌≡◌};
 ghost use Rattle.link.specs.Answers.{number_of};
 ghost use Rattle.link.specs.Promises.{Seals, Opens};
@@ -14,8 +14,7 @@ fn number(answer: Answer) -> u32
     link::number(answer) as u32
 }
 
-#[unsafe(no_mangle)]
-pub extern "C" fn shaftladder_seal(
+pub fn shaftladder_seal(
     edition: usize,
     form: usize,
     key: &[u8],
@@ -30,8 +29,7 @@ pub extern "C" fn shaftladder_seal(
     number(link::seal(edition, form, key, nonce, ad, message, tag, out))
 }
 
-#[unsafe(no_mangle)]
-pub extern "C" fn shaftladder_open(
+pub fn shaftladder_open(
     edition: usize,
     form: usize,
     key: &[u8],
