@@ -6,7 +6,7 @@ use native.Mathlib.Omega.{arith}
 use lib.ListN.{length, drop}
 use Rattle.lists.specs.Zeros.{zeros}
 use Rattle.aes.specs.Cipher.{cipher}
-use Rattle.aes.specs.Expansion.{words, key_words, key_rounds, key_expansion, aes}
+use Rattle.aes.specs.Expansion.{key_words, key_rounds, key_expansion, aes}
 use Rattle.aes.specs.Key.{size_of, expanded_as, expanded}
 use Rattle.aes.specs.declared.key.KeySize.{KeySize}
 use Rattle.aes.specs.declared.key.KeySize.TheVariants.{Known, Refused}

@@ -1,4 +1,6 @@
 // The forward cipher of FIPS 197 for keys of 16, 24 and 32 bytes, by the steps of its figures.
+#![tactic(auto)]
+
 mod cipher;
 mod expansion;
 mod key;

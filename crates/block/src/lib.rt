@@ -1,4 +1,6 @@
 // Blocks of 16 bytes by value: read, XOR, pad, double and its multiples. They are put with `lists::lay`.
+#![tactic(auto)]
+
 ghost use Rattle.std.specs.Prelude.{◌≡◌, ◌+◌, ◌*◌, ◌/◌, ◌%◌, ◌≤◌, length, take, drop};
 ghost use Rattle.lists.specs.Xor.{xor as xor_of};
 ghost use Rattle.lists.specs.Zeros.{zeros as zeros_of};

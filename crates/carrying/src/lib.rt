@@ -1,6 +1,8 @@
 // Carrying a record over to the other edition, and back (document 02, wish 8): the old side is opened, and what it held is sealed anew on
 // the new side. The caller lends the work buffer that the message passes through, and has it back cleared. The call asks nothing of its
 // caller; what it promises is in specs/Promises.antt.
+#![tactic(auto)]
+
 ghost use Rattle.std.specs.Prelude.{◌≡◌};
 ghost use Rattle.carrying.specs.Checks.{settings, passed, carry_check};
 ghost use Rattle.carrying.specs.Promises.{CarriesBy, Carries};

@@ -1,6 +1,8 @@
 // The last one or two blocks of the message pass, and TE. Each function writes its blocks and gives back what they put into the
 // checksum, and how many times the cipher ran (document 02, wish 6). w is the flat array of an expanded key, nr its round count, and
 // table the four joined tables.
+#![tactic(auto)]
+
 ghost use Rattle.std.specs.Prelude.{◌≡◌, true, false, List, [], ◌∷◌, ℕ, ◌+◌, ◌-◌, ◌≤◌, ◌<◌, ltb, length, take, drop};
 ghost use Rattle.lists.specs.Lay.{lay};
 ghost use Rattle.lists.specs.Xor.{xor};

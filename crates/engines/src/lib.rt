@@ -1,5 +1,7 @@
 // Sealing by a plan, for a controller with four cipher engines, and our own planner (document 02, wish 13). Whatever plan is accepted, it
 // seals what edition 3 seals with parallel data. No entry point asks anything of its caller; what they promise is in specs/Promises.antt.
+#![tactic(auto)]
+
 ghost use Rattle.engines.specs.Promises.{SealsPlanned, Plans};
 
 use link::{Answer, number};

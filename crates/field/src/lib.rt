@@ -1,4 +1,6 @@
 // The byte substitution of FIPS 197 as a table of 256, and the products that column mixing uses.
+#![tactic(auto)]
+
 ghost use Rattle.std.specs.Prelude.{◌≡◌};
 ghost use Rattle.field.specs.Field.{product};
 ghost use Rattle.field.specs.Substitution.{substitute, sbox as substitution};

@@ -1,5 +1,7 @@
 // The link for the mount's firmware, which is C and calls with numbers and byte buffers (document 02, wish 2): crate firmware_c exports
 // the two calls. The number alone is the answer: specs/Numbered.antt.
+#![tactic(auto)]
+
 ghost use Rattle.std.specs.Prelude.{◌≡◌};
 ghost use Rattle.link.specs.Answers.{number_of};
 ghost use Rattle.link.specs.Promises.{Seals, Opens};

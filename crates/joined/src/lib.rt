@@ -1,4 +1,6 @@
 // The cipher of FIPS 197 by the joined tables, which every function is lent.
+#![tactic(auto)]
+
 mod cipher;
 mod column;
 

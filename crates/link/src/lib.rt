@@ -2,6 +2,8 @@
 // data, or in edition 1, v1 with parallel data, under a raw key or under a prepared one. No entry point asks anything of its caller; what
 // they promise is in specs/Promises.antt and specs/Prepared.antt. The checks and `own_record` are public for `sealer` and `engines`, which
 // begin as a call with a raw key does.
+#![tactic(auto)]
+
 ghost use Rattle.link.specs.Promises.{Seals, Opens, SealsWith, OpensWith};
 
 mod answer;

@@ -1,5 +1,7 @@
 // Lists of bytes: laying a part into a buffer, clearing its front and comparing two, here in code, and in specs/ and proofs/ the
 // definitions and laws that every crate above cites.
+#![tactic(auto)]
+
 ghost use Rattle.std.specs.Prelude.{◌≡◌, ◌+◌, ◌≤◌, length};
 ghost use Rattle.lists.specs.Lay.{lay as laid};
 ghost use Rattle.lists.specs.Same.{same};

@@ -1,6 +1,8 @@
 // The pairs of the message pass, and their checksum. One step serves both directions: opening calls it with the two masks exchanged.
 // w is the flat array of an expanded key, nr its round count, and table the four joined tables. What runs the cipher says how many
 // times it did (document 02, wish 6).
+#![tactic(auto)]
+
 ghost use Rattle.std.specs.Prelude.{◌≡◌, ◌++◌, ◌+◌, ◌*◌, ◌≤◌, length, take};
 ghost use Rattle.lists.specs.Lay.{lay};
 ghost use Rattle.tables.specs.Joined.{joined};

@@ -3,6 +3,8 @@
 // to what runs the cipher. In the contracts the cipher E is `cipher nr (now w)`. What comes before the message pass is `associated`, its
 // pairs are `pairs`, its last blocks and TE `ends`. What runs the cipher says how many times it did (wish 6): each of its calls is
 // counted where it stands, and the sum is formed here, where passes meet.
+#![tactic(auto)]
+
 ghost use Rattle.std.specs.Prelude.{◌≡◌, ◌+◌, ◌-◌, ◌≤◌, length};
 ghost use Rattle.lists.specs.Lay.{lay};
 ghost use Rattle.tables.specs.Joined.{joined};

@@ -1,4 +1,6 @@
 // Plans for the four engines (document 02, wish 13): the check, which accepts exactly what specs/Plan.antt describes, and our planner.
+#![tactic(auto)]
+
 ghost use Rattle.std.specs.Prelude.{◌≡◌, ◌+◌, ◌*◌, ◌≤◌, length};
 ghost use Rattle.lists.specs.Lay.{lay};
 ghost use Rattle.plans.specs.Plan.{pair_at, Judged};

@@ -1,5 +1,7 @@
 // Products of blocks in the field of the doubling, powers of x, and a mask from its first one alone (document 02, wish 13). In here a
 // block is two words whose first byte is the highest, so that a shift is one of numbers.
+#![tactic(auto)]
+
 ghost use Rattle.std.specs.Prelude.{◌≡◌, [], ◌∷◌, ◌++◌, ◌/◌, ◌<◌, get_or};
 ghost use Rattle.lists.specs.Xor.{xor};
 ghost use Rattle.lists.specs.Zeros.{zeros};

@@ -2,7 +2,7 @@
 -- Over any cipher C, and a key, a nonce and data with which a beginning was accepted. Assumes nothing.
 use mathlib.Core.Path.{◌≡◌, refl, sym, ap, ap₂, ◌∙◌}
 use mathlib.Core.List.{List, [], ◌++◌}
-use Prim.Native.Nat.{ℕ, ◌+◌, ◌-◌, ◌*◌}
+use Prim.Native.Nat.{ℕ, ◌+◌, ◌*◌}
 use lib.ListN.{length, drop, length-append, length-drop}
 use lib.Seq.{take_at}
 use Rattle.lists.specs.Zeros.{zeros}

@@ -1,4 +1,6 @@
 // The four tables that join substitution and column mixing, one behind another (specs/Joined.antt).
+#![tactic(auto)]
+
 ghost use Rattle.std.specs.Prelude.{◌≡◌};
 ghost use Rattle.tables.specs.Joined.{joined as joined_of};
 

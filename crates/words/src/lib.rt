@@ -1,4 +1,6 @@
 // Words as their bytes, the lowest first: the compiler then reads and writes four bytes in memory, or eight, as one word.
+#![tactic(auto)]
+
 ghost use Rattle.std.specs.Prelude.{◌≡◌, [], ◌∷◌, ◌++◌};
 ghost use Rattle.lists.specs.Hex.{bytes as big};
 ghost use Rattle.words.specs.Word.{little};

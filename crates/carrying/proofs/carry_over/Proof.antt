@@ -5,7 +5,6 @@ use Prim.Native.Nat.{ℕ, ◌+◌, ◌≤◌}
 use native.Mathlib.Omega.{arith}
 use lib.ListN.{length, take}
 use lib.Seq.{length-take-le}
-use types.Run.{miss}
 use Rattle.link.specs.Promises.{Seals}
 use Rattle.link.specs.declared.answer.Answer.TheVariants.{Done}
 use Rattle.carrying.specs.Checks.{Settings, settings, other, passed}

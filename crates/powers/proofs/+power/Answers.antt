@@ -1,5 +1,5 @@
 -- `powers::power`, which calls itself, meets its contract. Assumes nothing.
-use Rattle.std.proofs.Common.{◌≡◌, ℕ, ◌/◌, ◌%◌, sym, ap, ap₂, ◌∙◌, arith}
+use Rattle.std.proofs.Common.{◌≡◌, ◌%◌, sym, ap, ap₂, ◌∙◌, arith}
 use Rattle.lists.specs.Zeros.{zeros}
 use Rattle.block.specs.Block.{double as double_of}
 use Rattle.mode.specs.Masks.{doubles}

@@ -4,7 +4,6 @@ use mathlib.Core.List.{List}
 use Prim.Native.Nat.{ℕ, ◌+◌}
 use native.Mathlib.Omega.{arith}
 use lib.ListN.{length}
-use Rattle.lists.specs.Zeros.{zeros}
 use Rattle.block.specs.Block.{triple}
 use Rattle.mode.specs.Form.{form_of}
 use Rattle.mode.specs.Edition.{v3}

@@ -8,10 +8,9 @@ use lib.ListN.{length, drop}
 use Rattle.lists.specs.Lay.{lay}
 use Rattle.lists.specs.Xor.{xor}
 use Rattle.aes.specs.Cipher.{cipher}
-use Rattle.lists.specs.Zeros.{zeros}
 use Rattle.mode.specs.Edition.{edition_of}
 use Rattle.mode.specs.Masks.{Masks, AreMasks, masks_of}
-use Rattle.mode.specs.Message.{last_length, sum, base, final, pairs}
+use Rattle.mode.specs.Message.{last_length, sum, base, final}
 use Rattle.mode.specs.Undoing.{swapped, unending}
 use Rattle.mode.proofs.Counts.{pairs-within, rest_most}
 use Rattle.mode.proofs.Otr.{edition_masks}
