@@ -1,34 +1,30 @@
 // Runs FIPS 197's examples: the ciphers of appendices B, C.1, C.2 and C.3, and the last expanded words of appendices A.1 to A.3.
+#![tactic(auto)]
+
 ghost use Rattle.std.specs.Prelude.{◌≤◌};
 
-use libc::STDOUT_FILENO;
+use std::io;
 
 const C_BLOCK: [u8; 16] = [
     0x00, 0x11, 0x22, 0x33, 0x44, 0x55, 0x66, 0x77, 0x88, 0x99, 0xaa, 0xbb, 0xcc, 0xdd, 0xee, 0xff,
 ];
 
-fn print_hex(bytes: &[u8]) {
-    let mut i = 0;
-    while i < bytes.len() {
-        io::print_hex(STDOUT_FILENO, wide(bytes[i]), 2);
-        i += 1;
+fn print_hex(rt: &impl Print, bytes: &[u8]) -> io::Result<()> {
+    for byte in bytes {
+        print!(rt; "{byte:02x}")?;
     }
+    Ok(())
 }
 
-fn wide(b: u8) -> u64 {
-    b as u64
+fn print_row(rt: &impl Print, name: &[u8], bytes: &[u8]) -> io::Result<()> {
+    rt.write_all(name)?;
+    print_hex(rt, bytes)?;
+    println!(rt)
 }
 
-fn print_row(name: &[u8], bytes: &[u8]) {
-    io::write_all(STDOUT_FILENO, name);
-    print_hex(bytes);
-    io::write_all(STDOUT_FILENO, b"\n");
-}
-
-fn cipher_row(name: &[u8], key: &[u8], block: [u8; 16]) {
+fn cipher_row(rt: &impl Print, name: &[u8], key: &[u8], block: [u8; 16]) -> io::Result<()> {
     let out = aes::encrypt_under(key, block);
-    let bytes = out.block;
-    print_row(name, &bytes);
+    print_row(rt, name, &out.block)
 }
 
 // The last word that the key's rounds use.
@@ -39,18 +35,19 @@ fn last_word(words: &[u8; 240], rounds: usize) -> [u8; 4]
     [words[at], words[at + 1], words[at + 2], words[at + 3]]
 }
 
-fn expansion_row(name: &[u8], key: &[u8]) {
+fn expansion_row(rt: &impl Print, name: &[u8], key: &[u8]) -> io::Result<()> {
     let table = field::sbox();
     let keys = aes::expand(&table, key);
     let rounds = keys.rounds;
     let words = keys.words;
     if rounds <= 14 {
         let word = last_word(&words, rounds);
-        print_row(name, &word);
+        print_row(rt, name, &word)?;
     }
+    Ok(())
 }
 
-fn main() {
+fn main(rt: HostRuntime) -> io::Result<()> {
     let a1 = [
         0x2b, 0x7e, 0x15, 0x16, 0x28, 0xae, 0xd2, 0xa6, 0xab, 0xf7, 0x15, 0x88, 0x09, 0xcf, 0x4f,
         0x3c,
@@ -73,11 +70,11 @@ fn main() {
         0x0f, 0x10, 0x11, 0x12, 0x13, 0x14, 0x15, 0x16, 0x17, 0x18, 0x19, 0x1a, 0x1b, 0x1c, 0x1d,
         0x1e, 0x1f,
     ];
-    cipher_row(b"B   ", &a1, b);
-    cipher_row(b"C.1 ", &c3[..16], C_BLOCK);
-    cipher_row(b"C.2 ", &c3[..24], C_BLOCK);
-    cipher_row(b"C.3 ", &c3, C_BLOCK);
-    expansion_row(b"A.1 ", &a1);
-    expansion_row(b"A.2 ", &a2);
-    expansion_row(b"A.3 ", &a3);
+    cipher_row(&rt, b"B   ", &a1, b)?;
+    cipher_row(&rt, b"C.1 ", &c3[..16], C_BLOCK)?;
+    cipher_row(&rt, b"C.2 ", &c3[..24], C_BLOCK)?;
+    cipher_row(&rt, b"C.3 ", &c3, C_BLOCK)?;
+    expansion_row(&rt, b"A.1 ", &a1)?;
+    expansion_row(&rt, b"A.2 ", &a2)?;
+    expansion_row(&rt, b"A.3 ", &a3)
 }
