@@ -1,4 +1,6 @@
 // Numbers as the programs are told them.
+#![tactic(auto)]
+
 ghost use Rattle.digits.specs.Bounds.{AtMost};
 
 #[derive(Drop)]
@@ -15,9 +17,8 @@ pub fn decimal(digits: &[u8]) -> Parsed
         return Parsed::Bad;
     }
     let mut value = 0;
-    let mut i = 0;
-    while i < digits.len() {
-        let digit = digits[i];
+    for digit in digits {
+        let digit = *digit;
         if digit < b'0' || b'9' < digit {
             return Parsed::Bad;
         }
@@ -25,7 +26,6 @@ pub fn decimal(digits: &[u8]) -> Parsed
         if 65535 < value {
             return Parsed::Bad;
         }
-        i += 1;
     }
     Parsed::Value(value)
 }

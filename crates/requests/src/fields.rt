@@ -106,14 +106,12 @@ pub fn end_of(line: &[u8], from: usize) -> usize
 pub fn find(bytes: &[u8], from: usize, mark: u8) -> usize
     ensures { (from ≤ result) × (result ≤ from + (length bytes.now - from)) }
 {
-    let mut at = from;
-    while at < bytes.len() {
+    for at in from..bytes.len() {
         if bytes[at] == mark {
             return at;
         }
-        at += 1;
     }
-    at
+    from.max(bytes.len())
 }
 
 // Puts the bytes that a field's digits stand for at the field's start, and answers how many there are. A byte lies no later than its
@@ -128,13 +126,11 @@ fn decode(field: &mut [u8]) -> Parsed
         return Parsed::Bad;
     }
     let count = field.len() / 2;
-    let mut i = 0;
-    while i < count {
+    for i in 0..count {
         let Byte::Value(byte) = hex_byte(field[2 * i], field[2 * i + 1]) else {
             return Parsed::Bad;
         };
         field[i] = byte;
-        i += 1;
     }
     Parsed::Value(count)
 }

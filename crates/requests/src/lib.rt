@@ -1,4 +1,6 @@
 // The requests of the bench console: what a line of its input asks for.
+#![tactic(auto)]
+
 mod fields;
 mod request;
 

@@ -193,12 +193,10 @@ fn begins(line: &[u8], word: &[u8]) -> bool {
     if line.len() < word.len() {
         return false;
     }
-    let mut i = 0;
-    while i < word.len() {
+    for i in 0..word.len() {
         if line[i] != word[i] {
             return false;
         }
-        i += 1;
     }
     true
 }

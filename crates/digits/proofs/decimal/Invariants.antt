@@ -1,0 +1,6 @@
+-- `decimal` keeps its value within bounds, so that no sum wraps.
+use Rattle.std.proofs.Common.{◌≤◌}
+use Rattle.digits.proofs.decimal.Given as goal
+
+abbrev pub invariant-loop-digit : goal.invariant-loop-digit
+invariant-loop-digit l = l.value ≤ 65535
