@@ -3,39 +3,48 @@
 ghost use Rattle.std.specs.Prelude.{◌≡◌, ◌+◌, ◌*◌, ◌<◌, ◌≤◌, length};
 
 use carrying::{Carried, Side};
-use libc::STDOUT_FILENO;
+use std::io::{self, Write};
 
-// Writes `NUMBER LENGTH RUNS OUTPUT`, and says whether it could be written.
-pub fn write_answer(text: &mut [u8], answer: link::Answer, output: &[u8]) -> bool
+// Writes `NUMBER LENGTH RUNS OUTPUT`.
+pub fn write_answer<W: Write>(
+    to: &mut W,
+    text: &mut [u8],
+    answer: link::Answer,
+    output: &[u8],
+) -> io::Result<()>
     requires { 2 * length output.now + 65 ≤ length text.old }
 {
     let at = put_field(text, 0, link::number(answer) as u64);
     let at = put_field(text, at, link::length(answer) as u64);
     let at = put_field(text, at, link::runs(answer) as u64);
     let at = put_hex(text, at, output);
-    write_line(text, at)
+    write_line(to, text, at)
 }
 
-// Writes `NUMBER SIDE LENGTH RUNS OUTPUT WORK`, and says whether it could be written.
-pub fn write_carried(text: &mut [u8], carried: Carried, output: &[u8], work: &[u8]) -> bool
+// Writes `NUMBER SIDE LENGTH RUNS OUTPUT WORK`.
+pub fn write_carried<W: Write>(
+    to: &mut W,
+    text: &mut [u8],
+    carried: Carried,
+    output: &[u8],
+    work: &[u8],
+) -> io::Result<()>
     requires output_in_bounds { 2 * length output.now + 86 ≤ length text.old }
     requires work_in_bounds { 2 * length work.now + 2 ≤ length text.old }
 {
     let at = put_carried(text, carried);
     let at = put_hex(text, at, output);
     let at = put(text, at, b" ");
-    if !io::write_all(STDOUT_FILENO, &text[0..at]) {
-        return false;
-    }
-    write_work(text, work)
+    to.write_all(&text[..at])?;
+    write_work(to, text, work)
 }
 
 // The rest of that line.
-fn write_work(text: &mut [u8], work: &[u8]) -> bool
+fn write_work<W: Write>(to: &mut W, text: &mut [u8], work: &[u8]) -> io::Result<()>
     requires { 2 * length work.now + 2 ≤ length text.old }
 {
     let at = put_hex(text, 0, work);
-    write_line(text, at)
+    write_line(to, text, at)
 }
 
 // Puts its numbers at the start of the text, and answers where they end.
@@ -59,8 +68,12 @@ fn side_number(side: Side) -> u64 {
     }
 }
 
-// Writes `NUMBER RUNS ROUNDS WORDS ZERO`, and says whether it could be written.
-pub fn write_preparation(text: &mut [u8], made: link::Preparation) -> bool
+// Writes `NUMBER RUNS ROUNDS WORDS ZERO`.
+pub fn write_preparation<W: Write>(
+    to: &mut W,
+    text: &mut [u8],
+    made: link::Preparation,
+) -> io::Result<()>
     requires { 2 * 256 + 67 ≤ length text.old }
 {
     let answer = made.answer;
@@ -68,24 +81,24 @@ pub fn write_preparation(text: &mut [u8], made: link::Preparation) -> bool
     let at = put_field(text, 0, link::number(answer) as u64);
     let at = put_field(text, at, link::runs(answer) as u64);
     let at = put_key(text, at, key);
-    write_line(text, at)
+    write_line(to, text, at)
 }
 
-// Writes `bad line N`, and says whether it could be written.
-pub fn write_bad_line(text: &mut [u8], number: u64) -> bool
+// Writes `bad line N`.
+pub fn write_bad_line<W: Write>(to: &mut W, text: &mut [u8], number: u64) -> io::Result<()>
     requires { 30 ≤ length text.old }
 {
     let at = put(text, 0, b"bad line ");
     let at = put_number(text, at, number);
-    write_line(text, at)
+    write_line(to, text, at)
 }
 
-// Ends the line at `at` and writes it, and says whether it could be written.
-fn write_line(text: &mut [u8], at: usize) -> bool
+// Ends the line at `at` and writes it.
+fn write_line<W: Write>(to: &mut W, text: &mut [u8], at: usize) -> io::Result<()>
     requires { at < length text.old }
 {
     let end = put(text, at, b"\n");
-    io::write_all(STDOUT_FILENO, &text[0..end])
+    to.write_all(&text[..end])
 }
 
 // Puts bytes into the text from `at` on, and answers where they end.
@@ -93,12 +106,9 @@ pub fn put(text: &mut [u8], at: usize, bytes: &[u8]) -> usize
     requires { at + length bytes.now ≤ length text.old }
     ensures { result ≡ at + length bytes.now }
 {
-    let mut i = 0;
-    while i < bytes.len() {
-        text[at + i] = bytes[i];
-        i += 1;
-    }
-    at + i
+    let end = at + bytes.len();
+    text[at..end].copy_from_slice(bytes);
+    end
 }
 
 // The same of a number's decimal digits.
@@ -107,8 +117,23 @@ fn put_number(text: &mut [u8], at: usize, number: u64) -> usize
     ensures { result ≤ at + 20 }
 {
     let mut digits = [0u8; 20];
-    let count = io::decimal(number, &mut digits);
-    put(text, at, &digits[0..count])
+    let from = lay_digits(&mut digits, number);
+    put(text, at, &digits[from..])
+}
+
+// Lays a number's decimal digits at the end of a buffer, and answers where they begin. No number of 64 bits has more digits than 20.
+fn lay_digits(digits: &mut [u8; 20], number: u64) -> usize
+    ensures { result ≤ 20 }
+{
+    let mut left = number;
+    for i in (0..20).rev() {
+        digits[i] = b'0' + (left % 10) as u8;
+        left /= 10;
+        if left == 0 {
+            return i;
+        }
+    }
+    0
 }
 
 // The same with a space behind them.
@@ -128,12 +153,10 @@ fn put_hex(text: &mut [u8], at: usize, bytes: &[u8]) -> usize
     if bytes.len() == 0 {
         return put(text, at, b"-");
     }
-    let mut i = 0;
-    while i < bytes.len() {
+    for i in 0..bytes.len() {
         put_byte(text, at + 2 * i, bytes[i]);
-        i += 1;
     }
-    at + 2 * i
+    at + 2 * bytes.len()
 }
 
 // The same of a prepared key, as `ROUNDS WORDS ZERO`.

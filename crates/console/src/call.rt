@@ -6,16 +6,13 @@ ghost use Rattle.console.specs.Bounds.{Enough};
 use crate::answer;
 use requests::{Beginning, Carrying, Feeding, Key, Part, Planned, Record, Request};
 use sealer::{Sealer, Step};
+use std::io::{self, Write};
 
 // What every byte of an output buffer is before the call, so that the answer shows which bytes the call left alone.
 const UNTOUCHED: u8 = 0xa5;
 
-// Whether a line's answer could be written, and the sealer as the line left it.
-#[derive(Drop)]
-pub struct Replied {
-    pub written: bool,
-    pub sealer: Sealer,
-}
+// The most bytes of a work buffer.
+const MOST_WORK: usize = 20480;
 
 pub fn prepare(line: &[u8], key: Part) -> link::Preparation
     requires { Inside (length line.now) key }
@@ -23,30 +20,48 @@ pub fn prepare(line: &[u8], key: Part) -> link::Preparation
     link::prepare(bytes_of(line, key))
 }
 
-// Calls the library and writes its answer, and says whether that could be written.
-pub fn carry_out(line: &[u8], request: Request, output: &mut [u8], text: &mut [u8]) -> bool
+// Calls the library and writes its answer.
+pub fn carry_out<W: Write>(
+    to: &mut W,
+    line: &[u8],
+    request: Request,
+    output: &mut [u8],
+    text: &mut [u8],
+) -> io::Result<()>
     requires sound { Sound (length line.now) request }
     requires enough { Enough (length output.old) (length text.old) }
 {
     let buffer = untouched(output, request.room);
     let answer = call(line, request, buffer);
-    answer::write_answer(text, answer, buffer)
+    answer::write_answer(to, text, answer, buffer)
 }
 
-// Carries a record over and writes the answer, and says whether that could be written.
-pub fn carry(line: &[u8], request: Carrying, output: &mut [u8], text: &mut [u8]) -> bool
+// Carries a record over and writes the answer.
+pub fn carry<W: Write>(
+    to: &mut W,
+    line: &[u8],
+    request: Carrying,
+    output: &mut [u8],
+    text: &mut [u8],
+) -> io::Result<()>
     requires carriable { Carriable (length line.now) request }
     requires enough { Enough (length output.old) (length text.old) }
 {
-    let mut lent = io::large_buffer();
+    let mut lent = [0u8; MOST_WORK];
     let buffer = untouched(output, request.room);
     let work = untouched(&mut lent, request.work);
     let carried = call_carry(line, request, buffer, work);
-    answer::write_carried(text, carried, buffer, work)
+    answer::write_carried(to, text, carried, buffer, work)
 }
 
-// Seals by a plan and writes the answer, and says whether that could be written.
-pub fn seal_planned(line: &[u8], request: Planned, output: &mut [u8], text: &mut [u8]) -> bool
+// Seals by a plan and writes the answer.
+pub fn seal_planned<W: Write>(
+    to: &mut W,
+    line: &[u8],
+    request: Planned,
+    output: &mut [u8],
+    text: &mut [u8],
+) -> io::Result<()>
     requires plannable { Plannable (length line.now) request }
     requires enough { Enough (length output.old) (length text.old) }
 {
@@ -60,21 +75,32 @@ pub fn seal_planned(line: &[u8], request: Planned, output: &mut [u8], text: &mut
         bytes_of(line, request.plan),
         buffer,
     );
-    answer::write_answer(text, answer, buffer)
+    answer::write_answer(to, text, answer, buffer)
 }
 
-// Makes a plan for a message of so many bytes and writes the answer, and says whether that could be written.
-pub fn plan(message: usize, room: usize, output: &mut [u8], text: &mut [u8]) -> bool
+// Makes a plan for a message of so many bytes and writes the answer.
+pub fn plan<W: Write>(
+    to: &mut W,
+    message: usize,
+    room: usize,
+    output: &mut [u8],
+    text: &mut [u8],
+) -> io::Result<()>
     requires room_bound { room ≤ 20480 }
     requires enough { Enough (length output.old) (length text.old) }
 {
     let buffer = untouched(output, room);
     let answer = engines::plan(message, buffer);
-    answer::write_answer(text, answer, buffer)
+    answer::write_answer(to, text, answer, buffer)
 }
 
-// Begins a sealing, whose sealer takes the place of the one before it.
-pub fn begin(line: &[u8], request: Beginning, text: &mut [u8]) -> Replied
+// Begins a sealing and writes the answer. Its sealer takes the place of the one before it.
+pub fn begin<W: Write>(
+    to: &mut W,
+    line: &[u8],
+    request: Beginning,
+    text: &mut [u8],
+) -> io::Result<Sealer>
     requires set { Set (length line.now) request.settings }
     requires in_bounds { 65 ≤ length text.old }
 {
@@ -83,44 +109,54 @@ pub fn begin(line: &[u8], request: Beginning, text: &mut [u8]) -> Replied
     let nonce = bytes_of(line, settings.nonce);
     let data = bytes_of(line, settings.data);
     let step = sealer::begin(settings.form, key, nonce, data, request.tag);
-    write_step(text, step, b"")
+    write_step(to, text, step, b"")
 }
 
-// Hands the sealer the next part of its message.
-pub fn feed(
+// Hands the sealer the next part of its message, and writes the answer.
+pub fn feed<W: Write>(
+    to: &mut W,
     line: &[u8],
     request: Feeding,
     sealer: Sealer,
     output: &mut [u8],
     text: &mut [u8],
-) -> Replied
+) -> io::Result<Sealer>
     requires fed { Fed (length line.now) request }
     requires enough { Enough (length output.old) (length text.old) }
 {
     let part = bytes_of(line, request.part);
     let buffer = untouched(output, request.room);
     let step = sealer.feed(part, buffer);
-    write_step(text, step, buffer)
+    write_step(to, text, step, buffer)
 }
 
-// Ends the sealing.
-pub fn end(room: usize, sealer: Sealer, output: &mut [u8], text: &mut [u8]) -> Replied
+// Ends the sealing and writes the answer.
+pub fn end<W: Write>(
+    to: &mut W,
+    room: usize,
+    sealer: Sealer,
+    output: &mut [u8],
+    text: &mut [u8],
+) -> io::Result<Sealer>
     requires room_bound { room ≤ 20480 }
     requires enough { Enough (length output.old) (length text.old) }
 {
     let buffer = untouched(output, room);
     let step = sealer.end(buffer);
-    write_step(text, step, buffer)
+    write_step(to, text, step, buffer)
 }
 
 // Writes a step's answer, and hands its sealer over.
-fn write_step(text: &mut [u8], step: Step, output: &[u8]) -> Replied
+fn write_step<W: Write>(
+    to: &mut W,
+    text: &mut [u8],
+    step: Step,
+    output: &[u8],
+) -> io::Result<Sealer>
     requires { 2 * length output.now + 65 ≤ length text.old }
 {
-    let answer = step.answer;
-    let sealer = step.sealer;
-    let written = answer::write_answer(text, answer, output);
-    Replied { written, sealer }
+    answer::write_answer(to, text, step.answer, output)?;
+    Ok(step.sealer)
 }
 
 // So many bytes of what is lent, as a buffer is before the call.
@@ -128,12 +164,9 @@ fn untouched(lent: &mut [u8], room: usize) -> &mut [u8]
     requires { room ≤ length lent.old }
     ensures { length result.now ≡ room }
 {
-    let mut i = 0;
-    while i < room {
-        lent[i] = UNTOUCHED;
-        i += 1;
-    }
-    &mut lent[0..room]
+    let buffer = &mut lent[..room];
+    buffer.fill(UNTOUCHED);
+    buffer
 }
 
 fn call(line: &[u8], request: Request, buffer: &mut [u8]) -> link::Answer

@@ -35,16 +35,20 @@
 //
 // A line has up to 65000 bytes, and ends at LF, CR LF or the input's end. One that is empty or begins with `#` is passed over. Any
 // other line that is no request, and any longer line, is answered by `bad line N`, where N counts all lines from 1.
+#![tactic(auto)]
+
 mod answer;
 mod call;
 
-ghost use Rattle.std.specs.Prelude.{◌≡◌, ◌≤◌, length};
+ghost use Rattle.std.specs.Prelude.{◌≡◌, ◌≤◌, length, IfOk};
 ghost use Rattle.console.specs.Bounds.{Enough};
 
-use call::Replied;
-use libc::STDIN_FILENO;
 use requests::Line;
 use sealer::Sealer;
+use std::io::{self, Read, Write};
+
+// How many bytes each buffer has: more than a line may have, and room for the longest answer.
+const BUFFER: usize = 65536;
 
 // How far the input was read, and what is kept from line to line.
 #[derive(Drop)]
@@ -53,23 +57,38 @@ struct Reading {
     number: u64,
     // How many of its bytes are held, at the start of the line's buffer.
     held: usize,
-    // Whether to read on: not after the input's end, nor after an answer that could not be written.
+    // Whether to read on: not after the input's end.
     more: bool,
     // What the requests `feed` and `end` go to.
     sealer: Sealer,
 }
 
-fn main() {
-    let mut chunk = io::large_buffer();
-    let mut line = io::large_buffer();
-    let mut output = io::large_buffer();
-    let mut text = io::large_buffer();
-    converse(&mut chunk, &mut line, &mut output, &mut text);
+fn main(rt: HostRuntime) -> io::Result<()> {
+    let alloc = rt.alloc();
+    let mut chunk = vec![in alloc; 0u8; BUFFER]?;
+    let mut line = vec![in alloc; 0u8; BUFFER]?;
+    let mut output = vec![in alloc; 0u8; BUFFER]?;
+    let mut text = vec![in alloc; 0u8; BUFFER]?;
+    converse(
+        &mut rt.stdin(),
+        &mut rt.stdout(),
+        &mut chunk,
+        &mut line,
+        &mut output,
+        &mut text,
+    )
 }
 
-// A proved loop has to end, and nothing says that an input does. So the loop counts its turns down, from a number that no run uses
-// up.
-fn converse(chunk: &mut [u8], line: &mut [u8], output: &mut [u8], text: &mut [u8])
+// A proved loop has to end, and nothing says that an input does. So the loop counts its turns, up to a number that no run comes to.
+// Where a read or a write fails, nothing more is read, and the error is handed on.
+fn converse<R: Read, W: Write>(
+    from: &mut R,
+    to: &mut W,
+    chunk: &mut [u8],
+    line: &mut [u8],
+    output: &mut [u8],
+    text: &mut [u8],
+) -> io::Result<()>
     requires { Enough (length output.old) (length text.old) }
 {
     let mut reading = Reading {
@@ -78,68 +97,71 @@ fn converse(chunk: &mut [u8], line: &mut [u8], output: &mut [u8], text: &mut [u8
         more: true,
         sealer: sealer::ended(),
     };
-    let mut turns = u64::MAX;
-    while turns > 0 && reading.more {
-        reading = read_chunk(reading, chunk, line, output, text);
-        turns -= 1;
+    for _turn in 0..u64::MAX {
+        reading = read_chunk(reading, from, to, chunk, line, output, text)?;
+        if !reading.more {
+            break;
+        }
     }
+    Ok(())
 }
 
-// Reads once, and answers the lines that end in what came. A read that fails counts as the input's end, where what is held is a line
-// too.
-fn read_chunk(
+// Reads once, and answers the lines that end in what came. At the input's end what is held is a line too.
+fn read_chunk<R: Read, W: Write>(
     before: Reading,
+    from: &mut R,
+    to: &mut W,
     chunk: &mut [u8],
     line: &mut [u8],
     output: &mut [u8],
     text: &mut [u8],
-) -> Reading
+) -> io::Result<Reading>
     requires held_in_bounds { before.held ≤ length line.old }
     requires enough { Enough (length output.old) (length text.old) }
-    ensures { result.held ≤ length line.old }
+    ensures { IfOk result (λ r. r.held ≤ length line.old) }
 {
-    let got = libc::read(STDIN_FILENO, chunk);
-    let count = io::count(got, chunk);
+    let count = from.read(chunk)?;
     if count > 0 {
-        return take_chunk(&chunk[0..count], before, line, output, text);
+        return take_chunk(&chunk[..count], before, to, line, output, text);
     }
     let held = before.held;
-    let sealer = before.sealer;
+    let number = before.number;
+    let mut sealer = before.sealer;
     if held > 0 {
-        reply(&mut line[0..held], before.number, sealer, output, text);
+        sealer = reply(&mut line[..held], number, sealer, to, output, text)?;
     }
-    Reading {
-        number: before.number,
+    Ok(Reading {
+        number,
         held: 0,
         more: false,
         sealer,
-    }
+    })
 }
 
 // Answers the lines that end in the chunk, and holds what is left of it. A reading is handed on once a line, and not once a byte: it has
 // the sealer in it, which would be copied each time.
-fn take_chunk(
+fn take_chunk<W: Write>(
     chunk: &[u8],
     before: Reading,
+    to: &mut W,
     line: &mut [u8],
     output: &mut [u8],
     text: &mut [u8],
-) -> Reading
+) -> io::Result<Reading>
     requires held_in_bounds { before.held ≤ length line.old }
     requires enough { Enough (length output.old) (length text.old) }
-    ensures { result.held ≤ length line.old }
+    ensures { IfOk result (λ r. r.held ≤ length line.old) }
 {
     let mut reading = before;
     let mut at = 0;
     let mut end = requests::find(chunk, at, b'\n');
-    while end < chunk.len() && reading.more {
-        reading = end_line(reading, line, &chunk[at..end], output, text);
+    while end < chunk.len() {
+        reading = end_line(reading, to, line, &chunk[at..end], output, text)?;
         at = end + 1;
         end = requests::find(chunk, at, b'\n');
     }
-    let held = hold(line, reading.held, &chunk[at..end]);
-    reading.held = held;
-    reading
+    reading.held = hold(line, reading.held, &chunk[at..end]);
+    Ok(reading)
 }
 
 // Puts more of a line behind what is held of it, and answers how much is held then. A line that fills its buffer is longer than a line
@@ -152,33 +174,33 @@ fn hold(line: &mut [u8], held: usize, bytes: &[u8]) -> usize
     if bytes.len() < left {
         return answer::put(line, held, bytes);
     }
-    answer::put(line, held, &bytes[0..left])
+    answer::put(line, held, &bytes[..left])
 }
 
 // Answers the line whose last bytes, up to its LF, are `rest`.
-fn end_line(
+fn end_line<W: Write>(
     before: Reading,
+    to: &mut W,
     line: &mut [u8],
     rest: &[u8],
     output: &mut [u8],
     text: &mut [u8],
-) -> Reading
+) -> io::Result<Reading>
     requires held_in_bounds { before.held ≤ length line.old }
     requires enough { Enough (length output.old) (length text.old) }
-    ensures { result.held ≡ 0 }
+    ensures { IfOk result (λ r. r.held ≡ 0) }
 {
+    let number = before.number;
     let held = hold(line, before.held, rest);
     let end = without_cr(line, held);
-    let sealer = before.sealer;
-    let replied = reply(&mut line[0..end], before.number, sealer, output, text);
-    let sealer = replied.sealer;
-    Reading {
+    let sealer = reply(&mut line[..end], number, before.sealer, to, output, text)?;
+    Ok(Reading {
         // No input has so many lines that this wraps.
-        number: std::num::wrapping_add_u64(before.number, 1),
+        number: number.wrapping_add(1),
         held: 0,
-        more: replied.written,
+        more: true,
         sealer,
-    }
+    })
 }
 
 // How many of the bytes that are held when an LF comes are the line's: CR LF counts as LF.
@@ -192,27 +214,28 @@ fn without_cr(line: &[u8], held: usize) -> usize
     held
 }
 
-// Answers a whole line.
-fn reply(
+// Answers a whole line, and hands on the sealer as the line left it.
+fn reply<W: Write>(
     line: &mut [u8],
     number: u64,
     sealer: Sealer,
+    to: &mut W,
     output: &mut [u8],
     text: &mut [u8],
-) -> Replied
+) -> io::Result<Sealer>
     requires { Enough (length output.old) (length text.old) }
 {
-    let written = match requests::parse(line) {
-        Line::PassedOver => true,
-        Line::Bad => answer::write_bad_line(text, number),
-        Line::Prepare(key) => answer::write_preparation(text, call::prepare(line, key)),
-        Line::Request(request) => call::carry_out(line, request, output, text),
-        Line::Carry(request) => call::carry(line, request, output, text),
-        Line::SealPlanned(request) => call::seal_planned(line, request, output, text),
-        Line::Plan(length, room) => call::plan(length, room, output, text),
-        Line::Begin(request) => return call::begin(line, request, text),
-        Line::Feed(request) => return call::feed(line, request, sealer, output, text),
-        Line::End(room) => return call::end(room, sealer, output, text),
-    };
-    Replied { written, sealer }
+    match requests::parse(line) {
+        Line::PassedOver => {}
+        Line::Bad => answer::write_bad_line(to, text, number)?,
+        Line::Prepare(key) => answer::write_preparation(to, text, call::prepare(line, key))?,
+        Line::Request(request) => call::carry_out(to, line, request, output, text)?,
+        Line::Carry(request) => call::carry(to, line, request, output, text)?,
+        Line::SealPlanned(request) => call::seal_planned(to, line, request, output, text)?,
+        Line::Plan(length, room) => call::plan(to, length, room, output, text)?,
+        Line::Begin(request) => return call::begin(to, line, request, text),
+        Line::Feed(request) => return call::feed(to, line, request, sealer, output, text),
+        Line::End(room) => return call::end(to, room, sealer, output, text),
+    }
+    Ok(sealer)
 }

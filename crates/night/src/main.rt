@@ -14,6 +14,8 @@
 // The answer is the line `NUMBER LENGTH RUNS TAG` of the last call, where TAG is the last 16 bytes of the output, in hexadecimal, all 00
 // where nothing was written. For a session it is the line of the one call: lengths and runs are added up, and the first refusal stands
 // for all. Told anything else, it says on standard error how it is used, and nothing more.
+#![tactic(auto)]
+
 mod planned;
 mod session;
 mod told;
@@ -21,7 +23,8 @@ mod told;
 ghost use Rattle.std.specs.Prelude.{◌+◌, ◌≤◌, length};
 
 use digits::Parsed;
-use libc::{STDERR_FILENO, STDOUT_FILENO};
+use std::io;
+use std::rt::Env;
 
 const EDITION: usize = 3;
 
@@ -38,6 +41,9 @@ const MOST_KEY: usize = 32;
 
 const MOST_MESSAGE: usize = 16384;
 
+// What sealing such a message puts out.
+const MOST_OUTPUT: usize = MOST_MESSAGE + TAG_BYTES;
+
 // How the message is sealed.
 #[derive(Drop)]
 enum Way {
@@ -50,93 +56,86 @@ enum Way {
     Masks,
 }
 
-fn main() {
-    if told::is_at(1, b"raw") {
-        return run_told(Way::Raw, 2);
+fn main(rt: HostRuntime) -> io::Result<()> {
+    if told::is_at(&rt, 1, b"raw") {
+        return run_told(&rt, Way::Raw, 2);
     }
-    if told::is_at(1, b"prepared") {
-        return run_told(Way::Prepared, 2);
+    if told::is_at(&rt, 1, b"prepared") {
+        return run_told(&rt, Way::Prepared, 2);
     }
-    if told::is_at(1, b"planned") {
-        return run_told(Way::Planned, 2);
+    if told::is_at(&rt, 1, b"planned") {
+        return run_told(&rt, Way::Planned, 2);
     }
-    if told::is_at(1, b"masks") {
-        return run_told(Way::Masks, 2);
+    if told::is_at(&rt, 1, b"masks") {
+        return run_told(&rt, Way::Masks, 2);
     }
-    let Parsed::Value(own) = told::number_at(2) else {
-        return usage();
+    let Parsed::Value(own) = told::number_at(&rt, 2) else {
+        return usage(&rt);
     };
-    if told::is_at(1, b"idle") {
+    if told::is_at(&rt, 1, b"idle") {
         // no message is longer than such a part
-        return run_told(
-            Way::Parts {
-                bytes: MOST_MESSAGE,
-                idle: own,
-            },
-            3,
-        );
+        let bytes = MOST_MESSAGE;
+        return run_told(&rt, Way::Parts { bytes, idle: own }, 3);
     }
-    if !told::is_at(1, b"parts") || own == 0 || MOST_MESSAGE < own {
-        return usage();
+    if !told::is_at(&rt, 1, b"parts") || own == 0 || MOST_MESSAGE < own {
+        return usage(&rt);
     }
-    run_told(
-        Way::Parts {
-            bytes: own,
-            idle: 0,
-        },
-        3,
-    );
+    let way = Way::Parts {
+        bytes: own,
+        idle: 0,
+    };
+    run_told(&rt, way, 3)
 }
 
-fn usage() {
-    io::write_all(
-        STDERR_FILENO,
-        b"usage: night raw | prepared | planned | masks | parts PART_BYTES | idle FEEDS, and then KEY_BYTES MESSAGE_BYTES CALLS ",
-    );
-    io::write_all(
-        STDERR_FILENO,
-        b"(1 to 16384, at most 65535, at most 32, at most 16384, 1 to 65535)\n",
-    );
+fn usage(rt: &impl Eprint) -> io::Result<()> {
+    eprint!(rt;
+        "usage: night raw | prepared | planned | masks | parts PART_BYTES | idle FEEDS, and then KEY_BYTES MESSAGE_BYTES CALLS "
+    )?;
+    eprintln!(rt; "(1 to 16384, at most 65535, at most 32, at most 16384, 1 to 65535)")
 }
 
 // With the words that every way is told, from word `first` to the last.
-fn run_told(way: Way, first: usize)
+fn run_told<R: Env + Print + Eprint + AllocGlobal>(rt: &R, way: Way, first: usize) -> io::Result<()>
     requires { first ≤ 3 }
 {
-    let Parsed::Value(key) = told::number_at(first) else {
-        return usage();
+    let Parsed::Value(key) = told::number_at(rt, first) else {
+        return usage(rt);
     };
-    let Parsed::Value(message) = told::number_at(first + 1) else {
-        return usage();
+    let Parsed::Value(message) = told::number_at(rt, first + 1) else {
+        return usage(rt);
     };
-    let Parsed::Value(calls) = told::number_at(first + 2) else {
-        return usage();
+    let Parsed::Value(calls) = told::number_at(rt, first + 2) else {
+        return usage(rt);
     };
-    // The program's name is counted too.
-    if os::arg_count() != first + 3 || MOST_KEY < key || MOST_MESSAGE < message || calls == 0 {
-        return usage();
+    let known = key <= MOST_KEY && message <= MOST_MESSAGE && calls != 0;
+    if !known || !told::ends_at(rt, first + 3) {
+        return usage(rt);
     }
-    run(way, key, message, calls);
+    run(rt, way, key, message, calls)
 }
 
 // With a key and a message of so many bytes.
-fn run(way: Way, key: usize, message: usize, calls: usize)
+fn run<R: Print + AllocGlobal>(
+    rt: &R,
+    way: Way,
+    key: usize,
+    message: usize,
+    calls: usize,
+) -> io::Result<()>
     requires key_bound { key ≤ 32 }
     requires message_bound { message ≤ 16384 }
 {
-    let mut string = io::large_buffer();
+    let mut string = vec![in rt.alloc(); 0u8; MOST_OUTPUT]?;
     fill(&mut string);
-    let mut output = io::large_buffer();
-    let out = &mut output[0..message + TAG_BYTES];
+    let mut output = vec![in rt.alloc(); 0u8; MOST_OUTPUT]?;
+    let out = &mut output[..message + TAG_BYTES];
     let answer = seal(way, &string, key, message, out, calls);
-    print(answer, out);
+    print(rt, answer, out)
 }
 
 fn fill(string: &mut [u8]) {
-    let mut i = 0;
-    while i < string.len() {
+    for i in 0..string.len() {
         string[i] = byte_at(i);
-        i += 1;
     }
 }
 
@@ -189,10 +188,8 @@ fn seal_raw(
     calls: usize,
 ) -> link::Answer {
     let mut answer = link::Answer::Done { length: 0, runs: 0 };
-    let mut left = calls;
-    while left > 0 {
+    for _call in 0..calls {
         answer = link::seal(EDITION, PARALLEL, key, nonce, data, message, TAG_BYTES, out);
-        left -= 1;
     }
     answer
 }
@@ -208,40 +205,32 @@ fn seal_prepared(
     let preparation = link::prepare(key);
     let record = preparation.key;
     let mut answer = preparation.answer;
-    let mut left = calls;
-    while left > 0 {
+    for _call in 0..calls {
         answer = link::seal_with(
             EDITION, PARALLEL, record, nonce, data, message, TAG_BYTES, out,
         );
-        left -= 1;
     }
     answer
 }
 
-fn print(answer: link::Answer, out: &[u8])
+fn print(rt: &impl Print, answer: link::Answer, out: &[u8]) -> io::Result<()>
     requires { 16 ≤ length out.now }
 {
-    print_number(link::number(answer) as u64);
-    print_number(link::length(answer) as u64);
-    print_number(link::runs(answer) as u64);
+    print_number(rt, link::number(answer) as u64)?;
+    print_number(rt, link::length(answer) as u64)?;
+    print_number(rt, link::runs(answer) as u64)?;
     let tag = out.len() - TAG_BYTES;
-    print_hex(&out[tag..]);
-    io::write_all(STDOUT_FILENO, b"\n");
+    print_hex(rt, &out[tag..])?;
+    println!(rt)
 }
 
-fn print_number(number: u64) {
-    io::print_decimal(STDOUT_FILENO, number);
-    io::write_all(STDOUT_FILENO, b" ");
+fn print_number(rt: &impl Print, number: u64) -> io::Result<()> {
+    print!(rt; "{number} ")
 }
 
-fn print_hex(bytes: &[u8]) {
-    let mut i = 0;
-    while i < bytes.len() {
-        io::print_hex(STDOUT_FILENO, wide(bytes[i]), 2);
-        i += 1;
+fn print_hex(rt: &impl Print, bytes: &[u8]) -> io::Result<()> {
+    for byte in bytes {
+        print!(rt; "{byte:02x}")?;
     }
-}
-
-fn wide(byte: u8) -> u64 {
-    byte as u64
+    Ok(())
 }

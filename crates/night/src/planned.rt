@@ -15,14 +15,13 @@ pub fn seal(
     out: &mut [u8],
     calls: usize,
 ) -> Answer {
-    let mut plan = [0; 1533];
+    let mut plan = [0u8; MOST_PLAN];
     let mut answer = engines::plan(message.len(), &mut plan);
     let count = link::length(answer);
     if MOST_PLAN < count {
         return answer;
     }
-    let mut left = calls;
-    while left > 0 {
+    for _call in 0..calls {
         answer = engines::seal_planned(
             key,
             nonce,
@@ -32,7 +31,6 @@ pub fn seal(
             &plan[0..count],
             out,
         );
-        left -= 1;
     }
     answer
 }
@@ -47,11 +45,9 @@ pub fn masks(u: &[u8], message: usize, out: &mut [u8], calls: usize) -> Answer
     // those of the pairs, and the one behind them
     let count = pairs + 1;
     let mut sum: [u64; 2] = [0, 0];
-    let mut left = calls;
-    while left > 0 {
+    for _call in 0..calls {
         let next = add_masks(sum, first, count);
         sum = next;
-        left -= 1;
     }
     let bytes = block::from_words(sum);
     lists::lay(out, message, &bytes);
@@ -61,12 +57,10 @@ pub fn masks(u: &[u8], message: usize, out: &mut [u8], calls: usize) -> Answer
 // The first so many masks, each from U alone.
 fn add_masks(before: [u64; 2], u: [u64; 2], count: usize) -> [u64; 2] {
     let mut sum = before;
-    let mut i = 0;
-    while i < count {
+    for i in 0..count {
         let l = powers::mask(u, i);
         let next = block::xor_words(sum, l);
         sum = next;
-        i += 1;
     }
     sum
 }

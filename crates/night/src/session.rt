@@ -16,13 +16,11 @@ pub fn seal(
     calls: usize,
 ) -> Answer {
     let mut answer = Answer::Done { length: 0, runs: 0 };
-    let mut left = calls;
-    while left > 0 {
+    for _call in 0..calls {
         let begun = sealer::begin(crate::PARALLEL, key, nonce, data, crate::TAG_BYTES);
         let fed = feed_parts(begun, message, part, out);
         let idled = feed_none(fed, idle, out);
         answer = end(idled, out);
-        left -= 1;
     }
     answer
 }
@@ -44,7 +42,7 @@ fn feed_parts(begun: Step, message: &[u8], part: usize, out: &mut [u8]) -> Step 
     }
     Step {
         answer: sum,
-        sealer: sealer,
+        sealer,
     }
 }
 
@@ -52,17 +50,15 @@ fn feed_parts(begun: Step, message: &[u8], part: usize, out: &mut [u8]) -> Step 
 fn feed_none(fed: Step, feeds: usize, out: &mut [u8]) -> Step {
     let mut sum = fed.answer;
     let mut sealer = fed.sealer;
-    let mut left = feeds;
-    while left > 0 {
+    for _feed in 0..feeds {
         let step = sealer.feed(b"", out);
         let answer = step.answer;
         sum = plus(sum, answer);
         sealer = step.sealer;
-        left -= 1;
     }
     Step {
         answer: sum,
-        sealer: sealer,
+        sealer,
     }
 }
 
@@ -108,7 +104,7 @@ fn plus(before: Answer, next: Answer) -> Answer {
         return next;
     }
     Answer::Done {
-        length: std::num::wrapping_add_usize(link::length(before), link::length(next)),
-        runs: std::num::wrapping_add_usize(link::runs(before), link::runs(next)),
+        length: link::length(before).wrapping_add(link::length(next)),
+        runs: link::runs(before).wrapping_add(link::runs(next)),
     }
 }
