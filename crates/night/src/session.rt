@@ -74,7 +74,8 @@ fn end(fed: Step, out: &mut [u8]) -> Answer {
 // Where a part that starts at `at` ends. One of no bytes would never get to the end: it is all that is left, and main makes none.
 fn part_end(at: usize, part: usize, end: usize) -> usize
     requires { at < end }
-    ensures { (at < result) × (result ≤ end) }
+    ensures goes_on { at < result }
+    ensures in_bounds { result ≤ end }
 {
     if part == 0 {
         return end;

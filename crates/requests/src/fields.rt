@@ -97,14 +97,16 @@ pub fn number(line: &[u8], from: usize) -> Field
 // Where the field that begins at `from` ends: at the next space or the line's end. One that would begin behind the line's end is
 // missing, and ends where it begins.
 pub fn end_of(line: &[u8], from: usize) -> usize
-    ensures { (from ≤ result) × (result ≤ from + (length line.now - from)) }
+    ensures from_on { from ≤ result }
+    ensures to_the_end { result ≤ from + (length line.now - from) }
 {
     find(line, from, b' ')
 }
 
 // Where the next `mark` stands, at `from` or behind it; where there is none, the end, or `from` if that is behind the end.
 pub fn find(bytes: &[u8], from: usize, mark: u8) -> usize
-    ensures { (from ≤ result) × (result ≤ from + (length bytes.now - from)) }
+    ensures from_on { from ≤ result }
+    ensures to_the_end { result ≤ from + (length bytes.now - from) }
 {
     for at in from..bytes.len() {
         if bytes[at] == mark {

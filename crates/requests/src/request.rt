@@ -278,7 +278,9 @@ fn parse_rooms(
     sealed: Part,
     new: Settings,
 ) -> Line
-    requires { Set (length line.now) old × (Inside (length line.now) sealed × Set (length line.now) new) }
+    requires old_set { Set (length line.now) old }
+    requires sealed_inside { Inside (length line.now) sealed }
+    requires new_set { Set (length line.now) new }
     ensures { Good (length line.now) result }
 {
     let Last::Numbers(room, work) = parse_numbers(line, from) else {
