@@ -54,8 +54,14 @@ pub fn double_big(x: [u64; 2]) -> [u64; 2]
     [s[0], s[1] ^ x[0] / TOP * 0x87]
 }
 
+// Source document 000, formula (1): each word as a number whose first byte is the highest.
 pub fn double_words(x: [u64; 2]) -> [u64; 2]
     ensures { bytes_of result ≡ double (bytes_of x) }
 {
-    turn_words(double_big(turn_words(x)))
+    let a = words::turned(x[0]);
+    let b = words::turned(x[1]);
+    [
+        words::turned(a % TOP * 2 + b / TOP),
+        words::turned(b % TOP * 2 ^ a / TOP * 0x87),
+    ]
 }
