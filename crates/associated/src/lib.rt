@@ -1,7 +1,7 @@
 // What comes before the message pass of AES-OTR under a prepared key: the nonce block, the associated data pass, and from these U, which
 // v1 calls δ, and what is XORed into the tag; in the edition and form with these numbers. nr is the key's round count, w the flat array
 // of its round keys, and q its first mask, that of the data pass (document 02, wish 9); table are the four joined tables. In the
-// contracts the cipher E is `cipher nr (now w)`. What runs the cipher says how many times it did (wish 6).
+// contracts the cipher E is `cipher nr w.now`. What runs the cipher says how many times it did (wish 6).
 #![tactic(auto)]
 
 ghost use Rattle.std.specs.Prelude.{◌≡◌, ◌≤◌, length};

@@ -1,5 +1,5 @@
 // The message pass of v3.1 in parts (document 02, wish 3), on arrays and slices: a part fed, and the end. w is the flat array of an
-// expanded key, nr its round count, and table the four joined tables. In the contracts the cipher E is `cipher nr (now w)`.
+// expanded key, nr its round count, and table the four joined tables. In the contracts the cipher E is `cipher nr w.now`.
 #![tactic(auto)]
 
 ghost use Rattle.std.specs.Prelude.{◌≡◌, ◌++◌, ◌+◌, ◌*◌, ◌≤◌, length, take};

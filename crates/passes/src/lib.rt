@@ -1,6 +1,6 @@
 // The passes of AES-OTR under a prepared key, in the edition and form with these numbers: nr is the key's round count, w the flat array
 // of its round keys, and q its first mask, that of the data pass (document 02, wish 9); table are the four joined tables, which are lent
-// to what runs the cipher. In the contracts the cipher E is `cipher nr (now w)`. What comes before the message pass is `associated`, its
+// to what runs the cipher. In the contracts the cipher E is `cipher nr w.now`. What comes before the message pass is `associated`, its
 // pairs are `pairs`, its last blocks and TE `ends`. What runs the cipher says how many times it did (wish 6): each of its calls is
 // counted where it stands, and the sum is formed here, where passes meet.
 #![tactic(auto)]
