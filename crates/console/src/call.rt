@@ -1,10 +1,10 @@
 // Carrying a request out.
 ghost use Rattle.std.specs.Prelude.{◌≡◌, ◌+◌, ◌*◌, ◌≤◌, length};
-ghost use Rattle.requests.specs.Bounds.{Inside, Recorded, Sound, Set, Carriable, Fed, Plannable};
-ghost use Rattle.console.specs.Bounds.{Enough};
+ghost use Rattle.console.specs.Bounds.{Inside, Recorded, Sound, Set, Carriable, Fed, Plannable, Enough};
 
 use crate::answer;
-use requests::{Beginning, Carrying, Feeding, Key, Part, Planned, Record, Request};
+use crate::fields::Part;
+use crate::request::{Beginning, Carrying, Feeding, Key, Planned, Record, Request};
 use sealer::{Sealer, Step};
 use std::io::{self, Write};
 
@@ -31,7 +31,9 @@ pub fn carry_out<W: Write>(
     requires sound { Sound (length line.now) request }
     requires enough { Enough (length output.old) (length text.old) }
 {
-    let buffer = untouched(output, request.room);
+    let room = request.room;
+    let buffer = &mut output[0..room];
+    fill(buffer);
     let answer = call(line, request, buffer);
     answer::write_answer(to, text, answer, buffer)
 }
@@ -48,8 +50,12 @@ pub fn carry<W: Write>(
     requires enough { Enough (length output.old) (length text.old) }
 {
     let mut lent = [0u8; MOST_WORK];
-    let buffer = untouched(output, request.room);
-    let work = untouched(&mut lent, request.work);
+    let room = request.room;
+    let work_room = request.work;
+    let buffer = &mut output[0..room];
+    let work = &mut lent[0..work_room];
+    fill(buffer);
+    fill(work);
     let carried = call_carry(line, request, buffer, work);
     answer::write_carried(to, text, carried, buffer, work)
 }
@@ -65,7 +71,9 @@ pub fn seal_planned<W: Write>(
     requires plannable { Plannable (length line.now) request }
     requires enough { Enough (length output.old) (length text.old) }
 {
-    let buffer = untouched(output, request.room);
+    let room = request.room;
+    let buffer = &mut output[0..room];
+    fill(buffer);
     let answer = engines::seal_planned(
         bytes_of(line, request.key),
         bytes_of(line, request.nonce),
@@ -89,7 +97,8 @@ pub fn plan<W: Write>(
     requires room_bound { room ≤ 20480 }
     requires enough { Enough (length output.old) (length text.old) }
 {
-    let buffer = untouched(output, room);
+    let buffer = &mut output[0..room];
+    fill(buffer);
     let answer = engines::plan(message, buffer);
     answer::write_answer(to, text, answer, buffer)
 }
@@ -125,7 +134,9 @@ pub fn feed<W: Write>(
     requires enough { Enough (length output.old) (length text.old) }
 {
     let part = bytes_of(line, request.part);
-    let buffer = untouched(output, request.room);
+    let room = request.room;
+    let buffer = &mut output[0..room];
+    fill(buffer);
     let step = sealer.feed(part, buffer);
     write_step(to, text, step, buffer)
 }
@@ -141,7 +152,8 @@ pub fn end<W: Write>(
     requires room_bound { room ≤ 20480 }
     requires enough { Enough (length output.old) (length text.old) }
 {
-    let buffer = untouched(output, room);
+    let buffer = &mut output[0..room];
+    fill(buffer);
     let step = sealer.end(buffer);
     write_step(to, text, step, buffer)
 }
@@ -159,14 +171,8 @@ fn write_step<W: Write>(
     Ok(step.sealer)
 }
 
-// So many bytes of what is lent, as a buffer is before the call.
-fn untouched(lent: &mut [u8], room: usize) -> &mut [u8]
-    requires { room ≤ length lent.old }
-    ensures { length result.now ≡ room }
-{
-    let buffer = &mut lent[..room];
+fn fill(buffer: &mut [u8]) {
     buffer.fill(UNTOUCHED);
-    buffer
 }
 
 fn call(line: &[u8], request: Request, buffer: &mut [u8]) -> link::Answer

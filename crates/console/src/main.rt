@@ -39,11 +39,13 @@
 
 mod answer;
 mod call;
+mod fields;
+mod request;
 
 ghost use Rattle.std.specs.Prelude.{◌≡◌, ◌≤◌, length, IfOk};
 ghost use Rattle.console.specs.Bounds.{Enough};
 
-use requests::Line;
+use request::Line;
 use sealer::Sealer;
 use std::io::{self, Read, Write};
 
@@ -80,7 +82,7 @@ fn main(rt: HostRuntime) -> io::Result<()> {
 }
 
 // A proved loop has to end, and nothing says that an input does. So the loop counts its turns, up to a number that no run comes to.
-// Where a read or a write fails, nothing more is read, and the error is handed on.
+// Where a write fails, nothing more is read, and the error is handed on.
 fn converse<R: Read, W: Write>(
     from: &mut R,
     to: &mut W,
@@ -106,7 +108,8 @@ fn converse<R: Read, W: Write>(
     Ok(())
 }
 
-// Reads once, and answers the lines that end in what came. At the input's end what is held is a line too.
+// Reads once, and answers the lines that end in what came. A read that fails counts as the input's end, where what is held is a line
+// too.
 fn read_chunk<R: Read, W: Write>(
     before: Reading,
     from: &mut R,
@@ -120,7 +123,7 @@ fn read_chunk<R: Read, W: Write>(
     requires enough { Enough (length output.old) (length text.old) }
     ensures { IfOk result (λ r. r.held ≤ length line.old) }
 {
-    let count = from.read(chunk)?;
+    let count = from.read(chunk).unwrap_or(0);
     if count > 0 {
         return take_chunk(&chunk[..count], before, to, line, output, text);
     }
@@ -154,11 +157,11 @@ fn take_chunk<W: Write>(
 {
     let mut reading = before;
     let mut at = 0;
-    let mut end = requests::find(chunk, at, b'\n');
+    let mut end = fields::find(chunk, at, b'\n');
     while end < chunk.len() {
         reading = end_line(reading, to, line, &chunk[at..end], output, text)?;
         at = end + 1;
-        end = requests::find(chunk, at, b'\n');
+        end = fields::find(chunk, at, b'\n');
     }
     reading.held = hold(line, reading.held, &chunk[at..end]);
     Ok(reading)
@@ -225,7 +228,7 @@ fn reply<W: Write>(
 ) -> io::Result<Sealer>
     requires { Enough (length output.old) (length text.old) }
 {
-    match requests::parse(line) {
+    match request::parse(line) {
         Line::PassedOver => {}
         Line::Bad => answer::write_bad_line(to, text, number)?,
         Line::Prepare(key) => answer::write_preparation(to, text, call::prepare(line, key))?,

@@ -20,7 +20,7 @@ mod planned;
 mod session;
 mod told;
 
-ghost use Rattle.std.specs.Prelude.{◌≡◌, ◌+◌, ◌≤◌, length};
+ghost use Rattle.std.specs.Prelude.{◌≡◌, ◌≤◌, length};
 
 use digits::Parsed;
 use std::io;
@@ -155,7 +155,6 @@ fn seal(
     requires in_bounds { 16 ≤ length string.now }
     requires key_in_bounds { key ≤ length string.now }
     requires message_in_bounds { message ≤ length string.now }
-    requires message_in_bounds_2 { message + 16 ≤ length out.old }
 {
     let nonce = &string[0..NONCE_BYTES];
     let data = &string[0..DATA_BYTES];

@@ -1,5 +1,5 @@
 // Sealing by our planner's plan, and the masks of such a sealing alone (document 02, wish 13).
-ghost use Rattle.std.specs.Prelude.{◌+◌, ◌≤◌, length};
+ghost use Rattle.std.specs.Prelude.{◌≤◌, length};
 
 use link::Answer;
 
@@ -35,11 +35,15 @@ pub fn seal(
     answer
 }
 
-// The masks that a sealing of so many bytes works out, from a U of 16 bytes. Their sum goes to where the tag would.
+// The masks that a sealing of so many bytes works out, from a U of 16 bytes. Their sum goes to where the tag would; where the output has
+// no room for a tag there, nothing is worked out.
 pub fn masks(u: &[u8], message: usize, out: &mut [u8], calls: usize) -> Answer
-    requires in_bounds { 16 ≤ length u.now }
-    requires message_in_bounds { message + 16 ≤ length out.old }
+    requires { 16 ≤ length u.now }
 {
+    let answer = Answer::Done { length: 0, runs: 0 };
+    if out.len() < crate::TAG_BYTES || out.len() - crate::TAG_BYTES < message {
+        return answer;
+    }
     let first = block::to_words(block::read_block(u, 0));
     let pairs = pairs::pairs_of(message);
     // those of the pairs, and the one behind them
@@ -51,7 +55,7 @@ pub fn masks(u: &[u8], message: usize, out: &mut [u8], calls: usize) -> Answer
     }
     let bytes = block::from_words(sum);
     lists::lay(out, message, &bytes);
-    Answer::Done { length: 0, runs: 0 }
+    answer
 }
 
 // The first so many masks, each from U alone.

@@ -4,4 +4,4 @@ use Rattle.mode.proofs.Counts.{pairs-within}
 use Rattle.night.proofs.planned.masks.Goals as goal
 
 pub overflow_add-count : goal.overflow_add-count
-overflow_add-count c = record { fits = omega (arith, c.pairs_of-pairs.ensures, pairs-within c.args.message, c.requires.message_in_bounds, c.ranges.message.fits) }
+overflow_add-count c = record { fits = omega (arith, c.pairs_of-pairs.ensures, pairs-within c.args.message, c.ranges.message.fits) }

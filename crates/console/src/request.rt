@@ -1,7 +1,7 @@
 // What a line asks for.
 ghost use Rattle.std.specs.Prelude.{length};
 ghost use Rattle.digits.specs.Bounds.{AtMost};
-ghost use Rattle.requests.specs.Bounds.{Inside, Held, Set, AllSet, Roomed, Good};
+ghost use Rattle.console.specs.Bounds.{Inside, Held, Within, Started, Set, AllSet, Roomed, Good};
 
 use crate::fields;
 use crate::fields::{Field, Part, Three, Two};
@@ -101,6 +101,13 @@ pub struct Planned {
     pub plan: Part,
     pub tag: usize,
     pub room: usize,
+}
+
+// FORM and KEY of a request under a raw key, and where the next field begins.
+#[derive(Drop)]
+enum Start {
+    Under(usize, Part, usize),
+    Bad,
 }
 
 // The settings, and where the next field begins.
@@ -221,10 +228,7 @@ fn parse_raw(line: &mut [u8], from: usize, opens: bool) -> Line
     let Field::Number(edition, next) = fields::number(line, from) else {
         return Line::Bad;
     };
-    let Field::Number(form, next) = fields::number(line, next) else {
-        return Line::Bad;
-    };
-    let Field::Bytes(key, next) = fields::bytes(line, next) else {
+    let Start::Under(form, key, next) = parse_start(line, next) else {
         return Line::Bad;
     };
     parse_strings(line, next, opens, edition, form, Key::Raw(key))
@@ -283,12 +287,15 @@ fn parse_rooms(
     requires new_set { Set (length line.now) new }
     ensures { Good (length line.now) result }
 {
-    let Last::Numbers(room, work) = parse_numbers(line, from) else {
+    let Field::Number(room, next) = fields::number(line, from) else {
         return Line::Bad;
     };
     if MOST_ROOM < room {
         return Line::Bad;
     }
+    let Parsed::Value(work) = parse_room(line, next) else {
+        return Line::Bad;
+    };
     Line::Carry(Carrying {
         edition,
         old,
@@ -304,10 +311,10 @@ fn parse_rooms(
 fn parse_four(line: &mut [u8], from: usize) -> Four
     ensures { AllSet (length line.old) result }
 {
-    let Field::Number(form, next) = fields::number(line, from) else {
+    let Start::Under(form, key, next) = parse_start(line, from) else {
         return Four::Bad;
     };
-    let Three::Bytes(key, nonce, data, next) = fields::triple(line, next) else {
+    let Two::Bytes(nonce, data, next) = fields::pair(line, next) else {
         return Four::Bad;
     };
     let settings = Settings {
@@ -317,6 +324,19 @@ fn parse_four(line: &mut [u8], from: usize) -> Four
         data,
     };
     Four::Fields(settings, next)
+}
+
+// FORM and KEY, which a request under a raw key has side by side, whether or not it names an edition before them.
+fn parse_start(line: &mut [u8], from: usize) -> Start
+    ensures { Started (length line.old) result }
+{
+    let Field::Number(form, next) = fields::number(line, from) else {
+        return Start::Bad;
+    };
+    let Field::Bytes(key, next) = fields::bytes(line, next) else {
+        return Start::Bad;
+    };
+    Start::Under(form, key, next)
 }
 
 // The fields of a request under a prepared key.
@@ -346,7 +366,7 @@ fn parse_prepared(line: &mut [u8], from: usize, opens: bool) -> Line
     parse_strings(line, next, opens, edition, form, Key::Prepared(place))
 }
 
-// The fields behind the key, from `from` to the line's end, and with them the request.
+// The fields behind the key, from `from` to the line's end: the other strings, and what follows them.
 fn parse_strings(
     line: &mut [u8],
     from: usize,
@@ -358,10 +378,10 @@ fn parse_strings(
     requires { Held (length line.old) key }
     ensures { Good (length line.new) result }
 {
-    let Three::Bytes(nonce, data, message, next) = fields::triple(line, from) else {
+    let Two::Bytes(nonce, data, next) = fields::pair(line, from) else {
         return Line::Bad;
     };
-    let Last::Numbers(tag, room) = parse_numbers(line, next) else {
+    let Field::Bytes(message, next) = fields::bytes(line, next) else {
         return Line::Bad;
     };
     let strings = Strings {
@@ -369,6 +389,27 @@ fn parse_strings(
         nonce,
         data,
         message,
+    };
+    parse_numbers(line, next, opens, edition, form, strings)
+}
+
+// The last two fields, from `from` to the line's end, and with them the request.
+fn parse_numbers(
+    line: &[u8],
+    from: usize,
+    opens: bool,
+    edition: usize,
+    form: usize,
+    strings: Strings,
+) -> Line
+    requires { Within (length line.now) strings }
+    ensures { Good (length line.now) result }
+{
+    let Field::Number(tag, next) = fields::number(line, from) else {
+        return Line::Bad;
+    };
+    let Parsed::Value(room) = parse_room(line, next) else {
+        return Line::Bad;
     };
     Line::Request(Request {
         opens,
@@ -390,7 +431,7 @@ fn parse_planned(line: &mut [u8], from: usize) -> Line
     let Two::Bytes(message, plan, next) = fields::pair(line, next) else {
         return Line::Bad;
     };
-    let Last::Numbers(tag, room) = parse_numbers(line, next) else {
+    let Last::Numbers(tag, room) = parse_last(line, next) else {
         return Line::Bad;
     };
     Line::SealPlanned(Planned {
@@ -431,14 +472,14 @@ fn parse_end(line: &[u8], from: usize) -> Line
 fn parse_plan(line: &[u8], from: usize) -> Line
     ensures { Good (length line.now) result }
 {
-    match parse_numbers(line, from) {
+    match parse_last(line, from) {
         Last::Numbers(length, room) => Line::Plan(length, room),
         Last::Bad => Line::Bad,
     }
 }
 
 // A number and the room behind it, which are the last fields of their request, from `from` to the line's end.
-fn parse_numbers(line: &[u8], from: usize) -> Last
+fn parse_last(line: &[u8], from: usize) -> Last
     ensures { Roomed result }
 {
     let Field::Number(number, next) = fields::number(line, from) else {

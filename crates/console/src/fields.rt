@@ -1,7 +1,7 @@
 // The fields of a request's line.
 ghost use Rattle.std.specs.Prelude.{◌+◌, ◌-◌, ◌≤◌, length};
 ghost use Rattle.digits.specs.Bounds.{AtMost};
-ghost use Rattle.requests.specs.Bounds.{Below, Read, Both, AllThree};
+ghost use Rattle.console.specs.Bounds.{Below, Read, Both, AllThree};
 
 use digits::Parsed;
 
