@@ -3,15 +3,15 @@
 ghost use Rattle.std.specs.Prelude.{◌≡◌, ◌+◌, ◌*◌, ◌<◌, ◌≤◌, length};
 
 use carrying::{Carried, Side};
-use std::io::{self, Write};
+use std::io::Write;
 
-// Writes `NUMBER LENGTH RUNS OUTPUT`.
+// Writes `NUMBER LENGTH RUNS OUTPUT`, and says whether it could be written.
 pub fn write_answer<W: Write>(
     to: &mut W,
     text: &mut [u8],
     answer: link::Answer,
     output: &[u8],
-) -> io::Result<()>
+) -> bool
     requires { 2 * length output.now + 65 ≤ length text.old }
 {
     let at = put_field(text, 0, link::number(answer) as u64);
@@ -21,26 +21,28 @@ pub fn write_answer<W: Write>(
     write_line(to, text, at)
 }
 
-// Writes `NUMBER SIDE LENGTH RUNS OUTPUT WORK`.
+// Writes `NUMBER SIDE LENGTH RUNS OUTPUT WORK`, and says whether it could be written.
 pub fn write_carried<W: Write>(
     to: &mut W,
     text: &mut [u8],
     carried: Carried,
     output: &[u8],
     work: &[u8],
-) -> io::Result<()>
+) -> bool
     requires output_in_bounds { 2 * length output.now + 86 ≤ length text.old }
     requires work_in_bounds { 2 * length work.now + 2 ≤ length text.old }
 {
     let at = put_carried(text, carried);
     let at = put_hex(text, at, output);
     let at = put(text, at, b" ");
-    to.write_all(&text[..at])?;
+    if to.write_all(&text[..at]).is_err() {
+        return false;
+    }
     write_work(to, text, work)
 }
 
 // The rest of that line.
-fn write_work<W: Write>(to: &mut W, text: &mut [u8], work: &[u8]) -> io::Result<()>
+fn write_work<W: Write>(to: &mut W, text: &mut [u8], work: &[u8]) -> bool
     requires { 2 * length work.now + 2 ≤ length text.old }
 {
     let at = put_hex(text, 0, work);
@@ -68,12 +70,8 @@ fn side_number(side: Side) -> u64 {
     }
 }
 
-// Writes `NUMBER RUNS ROUNDS WORDS ZERO`.
-pub fn write_preparation<W: Write>(
-    to: &mut W,
-    text: &mut [u8],
-    made: link::Preparation,
-) -> io::Result<()>
+// Writes `NUMBER RUNS ROUNDS WORDS ZERO`, and says whether it could be written.
+pub fn write_preparation<W: Write>(to: &mut W, text: &mut [u8], made: link::Preparation) -> bool
     requires { 2 * 256 + 67 ≤ length text.old }
 {
     let answer = made.answer;
@@ -84,8 +82,8 @@ pub fn write_preparation<W: Write>(
     write_line(to, text, at)
 }
 
-// Writes `bad line N`.
-pub fn write_bad_line<W: Write>(to: &mut W, text: &mut [u8], number: u64) -> io::Result<()>
+// Writes `bad line N`, and says whether it could be written.
+pub fn write_bad_line<W: Write>(to: &mut W, text: &mut [u8], number: u64) -> bool
     requires { 30 ≤ length text.old }
 {
     let at = put(text, 0, b"bad line ");
@@ -93,12 +91,12 @@ pub fn write_bad_line<W: Write>(to: &mut W, text: &mut [u8], number: u64) -> io:
     write_line(to, text, at)
 }
 
-// Ends the line at `at` and writes it.
-fn write_line<W: Write>(to: &mut W, text: &mut [u8], at: usize) -> io::Result<()>
+// Ends the line at `at` and writes it, and says whether it could be written.
+fn write_line<W: Write>(to: &mut W, text: &mut [u8], at: usize) -> bool
     requires { at < length text.old }
 {
     let end = put(text, at, b"\n");
-    to.write_all(&text[..end])
+    to.write_all(&text[..end]).is_ok()
 }
 
 // Puts bytes into the text from `at` on, and answers where they end.

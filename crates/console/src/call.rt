@@ -6,7 +6,7 @@ use crate::answer;
 use crate::fields::Part;
 use crate::request::{Beginning, Carrying, Feeding, Key, Planned, Record, Request};
 use sealer::{Sealer, Step};
-use std::io::{self, Write};
+use std::io::Write;
 
 // What every byte of an output buffer is before the call, so that the answer shows which bytes the call left alone.
 const UNTOUCHED: u8 = 0xa5;
@@ -14,20 +14,27 @@ const UNTOUCHED: u8 = 0xa5;
 // The most bytes of a work buffer.
 const MOST_WORK: usize = 20480;
 
+// Whether a line's answer could be written, and the sealer as the line left it.
+#[derive(Drop)]
+pub struct Replied {
+    pub written: bool,
+    pub sealer: Sealer,
+}
+
 pub fn prepare(line: &[u8], key: Part) -> link::Preparation
     requires { Inside (length line.now) key }
 {
     link::prepare(bytes_of(line, key))
 }
 
-// Calls the library and writes its answer.
+// Calls the library and writes its answer, and says whether that could be written.
 pub fn carry_out<W: Write>(
     to: &mut W,
     line: &[u8],
     request: Request,
     output: &mut [u8],
     text: &mut [u8],
-) -> io::Result<()>
+) -> bool
     requires sound { Sound (length line.now) request }
     requires enough { Enough (length output.old) (length text.old) }
 {
@@ -38,14 +45,14 @@ pub fn carry_out<W: Write>(
     answer::write_answer(to, text, answer, buffer)
 }
 
-// Carries a record over and writes the answer.
+// Carries a record over and writes the answer, and says whether that could be written.
 pub fn carry<W: Write>(
     to: &mut W,
     line: &[u8],
     request: Carrying,
     output: &mut [u8],
     text: &mut [u8],
-) -> io::Result<()>
+) -> bool
     requires carriable { Carriable (length line.now) request }
     requires enough { Enough (length output.old) (length text.old) }
 {
@@ -60,14 +67,14 @@ pub fn carry<W: Write>(
     answer::write_carried(to, text, carried, buffer, work)
 }
 
-// Seals by a plan and writes the answer.
+// Seals by a plan and writes the answer, and says whether that could be written.
 pub fn seal_planned<W: Write>(
     to: &mut W,
     line: &[u8],
     request: Planned,
     output: &mut [u8],
     text: &mut [u8],
-) -> io::Result<()>
+) -> bool
     requires plannable { Plannable (length line.now) request }
     requires enough { Enough (length output.old) (length text.old) }
 {
@@ -86,14 +93,14 @@ pub fn seal_planned<W: Write>(
     answer::write_answer(to, text, answer, buffer)
 }
 
-// Makes a plan for a message of so many bytes and writes the answer.
+// Makes a plan for a message of so many bytes and writes the answer, and says whether that could be written.
 pub fn plan<W: Write>(
     to: &mut W,
     message: usize,
     room: usize,
     output: &mut [u8],
     text: &mut [u8],
-) -> io::Result<()>
+) -> bool
     requires room_bound { room ≤ 20480 }
     requires enough { Enough (length output.old) (length text.old) }
 {
@@ -103,13 +110,8 @@ pub fn plan<W: Write>(
     answer::write_answer(to, text, answer, buffer)
 }
 
-// Begins a sealing and writes the answer. Its sealer takes the place of the one before it.
-pub fn begin<W: Write>(
-    to: &mut W,
-    line: &[u8],
-    request: Beginning,
-    text: &mut [u8],
-) -> io::Result<Sealer>
+// Begins a sealing, whose sealer takes the place of the one before it.
+pub fn begin<W: Write>(to: &mut W, line: &[u8], request: Beginning, text: &mut [u8]) -> Replied
     requires set { Set (length line.now) request.settings }
     requires in_bounds { 65 ≤ length text.old }
 {
@@ -121,7 +123,7 @@ pub fn begin<W: Write>(
     write_step(to, text, step, b"")
 }
 
-// Hands the sealer the next part of its message, and writes the answer.
+// Hands the sealer the next part of its message.
 pub fn feed<W: Write>(
     to: &mut W,
     line: &[u8],
@@ -129,7 +131,7 @@ pub fn feed<W: Write>(
     sealer: Sealer,
     output: &mut [u8],
     text: &mut [u8],
-) -> io::Result<Sealer>
+) -> Replied
     requires fed { Fed (length line.now) request }
     requires enough { Enough (length output.old) (length text.old) }
 {
@@ -141,14 +143,14 @@ pub fn feed<W: Write>(
     write_step(to, text, step, buffer)
 }
 
-// Ends the sealing and writes the answer.
+// Ends the sealing.
 pub fn end<W: Write>(
     to: &mut W,
     room: usize,
     sealer: Sealer,
     output: &mut [u8],
     text: &mut [u8],
-) -> io::Result<Sealer>
+) -> Replied
     requires room_bound { room ≤ 20480 }
     requires enough { Enough (length output.old) (length text.old) }
 {
@@ -159,16 +161,13 @@ pub fn end<W: Write>(
 }
 
 // Writes a step's answer, and hands its sealer over.
-fn write_step<W: Write>(
-    to: &mut W,
-    text: &mut [u8],
-    step: Step,
-    output: &[u8],
-) -> io::Result<Sealer>
+fn write_step<W: Write>(to: &mut W, text: &mut [u8], step: Step, output: &[u8]) -> Replied
     requires { 2 * length output.now + 65 ≤ length text.old }
 {
-    answer::write_answer(to, text, step.answer, output)?;
-    Ok(step.sealer)
+    let answer = step.answer;
+    let sealer = step.sealer;
+    let written = answer::write_answer(to, text, answer, output);
+    Replied { written, sealer }
 }
 
 fn fill(buffer: &mut [u8]) {

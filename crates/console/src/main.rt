@@ -42,12 +42,14 @@ mod call;
 mod fields;
 mod request;
 
-ghost use Rattle.std.specs.Prelude.{◌≡◌, ◌≤◌, length, IfOk};
+ghost use Rattle.std.specs.Prelude.{◌≡◌, ◌≤◌, length};
 ghost use Rattle.console.specs.Bounds.{Enough};
 
+use call::Replied;
 use request::Line;
 use sealer::Sealer;
-use std::io::{self, Read, Write};
+use std::alloc::AllocError;
+use std::io::{Read, Write};
 
 // How many bytes each buffer has: more than a line may have, and room for the longest answer.
 const BUFFER: usize = 65536;
@@ -59,13 +61,13 @@ struct Reading {
     number: u64,
     // How many of its bytes are held, at the start of the line's buffer.
     held: usize,
-    // Whether to read on: not after the input's end.
+    // Whether to read on: not after the input's end, nor after an answer that could not be written.
     more: bool,
     // What the requests `feed` and `end` go to.
     sealer: Sealer,
 }
 
-fn main(rt: HostRuntime) -> io::Result<()> {
+fn main(rt: HostRuntime) -> Result<(), AllocError> {
     let alloc = rt.alloc();
     let mut chunk = vec![in alloc; 0u8; BUFFER]?;
     let mut line = vec![in alloc; 0u8; BUFFER]?;
@@ -78,11 +80,11 @@ fn main(rt: HostRuntime) -> io::Result<()> {
         &mut line,
         &mut output,
         &mut text,
-    )
+    );
+    Ok(())
 }
 
 // A proved loop has to end, and nothing says that an input does. So the loop counts its turns, up to a number that no run comes to.
-// Where a write fails, nothing more is read, and the error is handed on.
 fn converse<R: Read, W: Write>(
     from: &mut R,
     to: &mut W,
@@ -90,7 +92,7 @@ fn converse<R: Read, W: Write>(
     line: &mut [u8],
     output: &mut [u8],
     text: &mut [u8],
-) -> io::Result<()>
+)
     requires { Enough (length output.old) (length text.old) }
 {
     let mut reading = Reading {
@@ -100,12 +102,11 @@ fn converse<R: Read, W: Write>(
         sealer: sealer::ended(),
     };
     for _turn in 0..u64::MAX {
-        reading = read_chunk(reading, from, to, chunk, line, output, text)?;
         if !reading.more {
             break;
         }
+        reading = read_chunk(reading, from, to, chunk, line, output, text);
     }
-    Ok(())
 }
 
 // Reads once, and answers the lines that end in what came. A read that fails counts as the input's end, where what is held is a line
@@ -118,10 +119,10 @@ fn read_chunk<R: Read, W: Write>(
     line: &mut [u8],
     output: &mut [u8],
     text: &mut [u8],
-) -> io::Result<Reading>
+) -> Reading
     requires held_in_bounds { before.held ≤ length line.old }
     requires enough { Enough (length output.old) (length text.old) }
-    ensures { IfOk result (λ r. r.held ≤ length line.old) }
+    ensures { result.held ≤ length line.old }
 {
     let count = from.read(chunk).unwrap_or(0);
     if count > 0 {
@@ -131,14 +132,14 @@ fn read_chunk<R: Read, W: Write>(
     let number = before.number;
     let mut sealer = before.sealer;
     if held > 0 {
-        sealer = reply(&mut line[..held], number, sealer, to, output, text)?;
+        sealer = reply(&mut line[..held], number, sealer, to, output, text).sealer;
     }
-    Ok(Reading {
+    Reading {
         number,
         held: 0,
         more: false,
         sealer,
-    })
+    }
 }
 
 // Answers the lines that end in the chunk, and holds what is left of it. A reading is handed on once a line, and not once a byte: it has
@@ -150,21 +151,21 @@ fn take_chunk<W: Write>(
     line: &mut [u8],
     output: &mut [u8],
     text: &mut [u8],
-) -> io::Result<Reading>
+) -> Reading
     requires held_in_bounds { before.held ≤ length line.old }
     requires enough { Enough (length output.old) (length text.old) }
-    ensures { IfOk result (λ r. r.held ≤ length line.old) }
+    ensures { result.held ≤ length line.old }
 {
     let mut reading = before;
     let mut at = 0;
     let mut end = fields::find(chunk, at, b'\n');
-    while end < chunk.len() {
-        reading = end_line(reading, to, line, &chunk[at..end], output, text)?;
+    while end < chunk.len() && reading.more {
+        reading = end_line(reading, to, line, &chunk[at..end], output, text);
         at = end + 1;
         end = fields::find(chunk, at, b'\n');
     }
     reading.held = hold(line, reading.held, &chunk[at..end]);
-    Ok(reading)
+    reading
 }
 
 // Puts more of a line behind what is held of it, and answers how much is held then. A line that fills its buffer is longer than a line
@@ -188,22 +189,22 @@ fn end_line<W: Write>(
     rest: &[u8],
     output: &mut [u8],
     text: &mut [u8],
-) -> io::Result<Reading>
+) -> Reading
     requires held_in_bounds { before.held ≤ length line.old }
     requires enough { Enough (length output.old) (length text.old) }
-    ensures { IfOk result (λ r. r.held ≡ 0) }
+    ensures { result.held ≡ 0 }
 {
     let number = before.number;
     let held = hold(line, before.held, rest);
     let end = without_cr(line, held);
-    let sealer = reply(&mut line[..end], number, before.sealer, to, output, text)?;
-    Ok(Reading {
+    let replied = reply(&mut line[..end], number, before.sealer, to, output, text);
+    Reading {
         // No input has so many lines that this wraps.
         number: number.wrapping_add(1),
         held: 0,
-        more: true,
-        sealer,
-    })
+        more: replied.written,
+        sealer: replied.sealer,
+    }
 }
 
 // How many of the bytes that are held when an LF comes are the line's: CR LF counts as LF.
@@ -217,7 +218,7 @@ fn without_cr(line: &[u8], held: usize) -> usize
     held
 }
 
-// Answers a whole line, and hands on the sealer as the line left it.
+// Answers a whole line.
 fn reply<W: Write>(
     line: &mut [u8],
     number: u64,
@@ -225,20 +226,20 @@ fn reply<W: Write>(
     to: &mut W,
     output: &mut [u8],
     text: &mut [u8],
-) -> io::Result<Sealer>
+) -> Replied
     requires { Enough (length output.old) (length text.old) }
 {
-    match request::parse(line) {
-        Line::PassedOver => {}
-        Line::Bad => answer::write_bad_line(to, text, number)?,
-        Line::Prepare(key) => answer::write_preparation(to, text, call::prepare(line, key))?,
-        Line::Request(request) => call::carry_out(to, line, request, output, text)?,
-        Line::Carry(request) => call::carry(to, line, request, output, text)?,
-        Line::SealPlanned(request) => call::seal_planned(to, line, request, output, text)?,
-        Line::Plan(length, room) => call::plan(to, length, room, output, text)?,
+    let written = match request::parse(line) {
+        Line::PassedOver => true,
+        Line::Bad => answer::write_bad_line(to, text, number),
+        Line::Prepare(key) => answer::write_preparation(to, text, call::prepare(line, key)),
+        Line::Request(request) => call::carry_out(to, line, request, output, text),
+        Line::Carry(request) => call::carry(to, line, request, output, text),
+        Line::SealPlanned(request) => call::seal_planned(to, line, request, output, text),
+        Line::Plan(length, room) => call::plan(to, length, room, output, text),
         Line::Begin(request) => return call::begin(to, line, request, text),
         Line::Feed(request) => return call::feed(to, line, request, sealer, output, text),
         Line::End(room) => return call::end(to, room, sealer, output, text),
-    }
-    Ok(sealer)
+    };
+    Replied { written, sealer }
 }
