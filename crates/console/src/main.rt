@@ -48,7 +48,6 @@ ghost use Rattle.console.specs.Bounds.{Enough};
 use call::Replied;
 use request::Line;
 use sealer::Sealer;
-use std::alloc::AllocError;
 use std::io::{Read, Write};
 
 // How many bytes each buffer has: more than a line may have, and room for the longest answer.
@@ -67,12 +66,11 @@ struct Reading {
     sealer: Sealer,
 }
 
-fn main(rt: HostRuntime) -> Result<(), AllocError> {
-    let alloc = rt.alloc();
-    let mut chunk = vec![in alloc; 0u8; BUFFER]?;
-    let mut line = vec![in alloc; 0u8; BUFFER]?;
-    let mut output = vec![in alloc; 0u8; BUFFER]?;
-    let mut text = vec![in alloc; 0u8; BUFFER]?;
+fn main(rt: HostRuntime) {
+    let mut chunk = [0u8; BUFFER];
+    let mut line = [0u8; BUFFER];
+    let mut output = [0u8; BUFFER];
+    let mut text = [0u8; BUFFER];
     converse(
         &mut rt.stdin(),
         &mut rt.stdout(),
@@ -81,7 +79,6 @@ fn main(rt: HostRuntime) -> Result<(), AllocError> {
         &mut output,
         &mut text,
     );
-    Ok(())
 }
 
 // A proved loop has to end, and nothing says that an input does. So the loop counts its turns, up to a number that no run comes to.

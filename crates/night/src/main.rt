@@ -95,7 +95,7 @@ fn usage(rt: &impl Eprint) -> io::Result<()> {
 }
 
 // With the words that every way is told, from word `first` to the last.
-fn run_told<R: Env + Print + Eprint + AllocGlobal>(rt: &R, way: Way, first: usize) -> io::Result<()>
+fn run_told<R: Env + Print + Eprint>(rt: &R, way: Way, first: usize) -> io::Result<()>
     requires { first ≤ 3 }
 {
     let Parsed::Value(key) = told::number_at(rt, first) else {
@@ -115,19 +115,13 @@ fn run_told<R: Env + Print + Eprint + AllocGlobal>(rt: &R, way: Way, first: usiz
 }
 
 // With a key and a message of so many bytes.
-fn run<R: Print + AllocGlobal>(
-    rt: &R,
-    way: Way,
-    key: usize,
-    message: usize,
-    calls: usize,
-) -> io::Result<()>
+fn run(rt: &impl Print, way: Way, key: usize, message: usize, calls: usize) -> io::Result<()>
     requires key_bound { key ≤ 32 }
     requires message_bound { message ≤ 16384 }
 {
-    let mut string = vec![in rt.alloc(); 0u8; MOST_OUTPUT]?;
+    let mut string = [0u8; MOST_OUTPUT];
     fill(&mut string);
-    let mut output = vec![in rt.alloc(); 0u8; MOST_OUTPUT]?;
+    let mut output = [0u8; MOST_OUTPUT];
     let out = &mut output[..message + TAG_BYTES];
     let answer = seal(way, &string, key, message, out, calls);
     print(rt, answer, out)
