@@ -9,7 +9,7 @@ ghost use Rattle.aes.specs.Key.{size_of, expanded, ciphered_of};
 use crate::{cipher, expansion};
 
 // What FIPS 197 has for a key of some length: rounds, and words of expanded key.
-#[derive(Drop)]
+#[derive(Clone, Copy)]
 pub enum KeySize {
     Known { rounds: usize, words: usize },
     Refused,
@@ -36,7 +36,7 @@ pub fn key_size(key_len: usize) -> KeySize
 }
 
 // An expanded key: its round count and its words, those not used zero. A refused key has none: all is zero.
-#[derive(Drop)]
+#[derive(Clone, Copy)]
 pub struct RoundKeys {
     pub rounds: usize,
     pub words: [u8; 240],
@@ -87,7 +87,7 @@ pub fn expand(table: &[u8; 256], key: &[u8]) -> RoundKeys
 }
 
 // A block ciphered under a key, or zeros where the key is refused.
-#[derive(Drop)]
+#[derive(Clone, Copy)]
 pub struct Ciphered {
     pub known: bool,
     pub block: [u8; 16],

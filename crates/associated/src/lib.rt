@@ -22,7 +22,7 @@ mod serial;
 pub use data::first_q;
 
 // U or δ, what is XORed into the tag, and how many times the cipher ran for them.
-#[derive(Drop)]
+#[derive(Clone, Copy)]
 pub struct SealsWith {
     pub u: [u8; 16],
     pub added: [u8; 16],

@@ -10,7 +10,7 @@ ghost use Rattle.mode.specs.Data.{start_q, data_final, data_sum, sum_inputs, par
 use crate::data;
 use pairs::Ran;
 
-#[derive(Drop)]
+#[derive(Clone, Copy)]
 pub struct DataSum {
     pub sum: [u8; 16],
     pub q: [u8; 16],

@@ -12,14 +12,14 @@ use link::Answer;
 mod check;
 
 // Which side an answer speaks of.
-#[derive(Drop)]
+#[derive(Clone, Copy)]
 pub enum Side {
     Neither,
     Old,
     New,
 }
 
-#[derive(Drop)]
+#[derive(Clone, Copy)]
 pub struct Carried {
     pub side: Side,
     pub answer: Answer,

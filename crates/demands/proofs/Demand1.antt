@@ -18,7 +18,7 @@ use Rattle.link.specs.Promises.{sealing, seal_runs, open_runs, SealsBy, Seals, O
 use Rattle.link.specs.declared.answer.Answer.{Answer}
 use Rattle.link.specs.declared.answer.Answer.TheVariants.{Key, Nonce, Tag, Data, Length, Room, Form, Edition}
 use Rattle.link.specs.declared.prepared.Prepared.{Prepared}
-use Rattle.link.proofs.Answers.{Answered, done, forged, refusal, answered}
+use Rattle.link.proofs.Answers.{Answered, done, forged, planned, refusal, answered}
 use Rattle.link.proofs.Verdicts.{Verdict, passes, stops, pass_or_stop, OpenFits, open_verdict}
 use Rattle.demands.specs.Calls.{first_of, first_failing, key_known, rounds_known, seal_checks, open_checks}
 
@@ -58,6 +58,7 @@ refusal_length r z = go (answered r)
     go : Answered r → length_of r ≡ 0
     go (done n k e) = absurd (z (ap number_of e))
     go (forged k e) = ap length_of e
+    go (planned e) = ap length_of e
     go (refusal most none runs stands) = none
 
 -- ---- sealing

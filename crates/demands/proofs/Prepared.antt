@@ -26,7 +26,7 @@ use Rattle.link.specs.Promises.{sealing, seal_runs, open_runs, SealsBy, Seals, o
 use Rattle.link.specs.declared.answer.Answer.{Answer}
 use Rattle.link.specs.declared.answer.Answer.TheVariants.{Done, Key, Forged}
 use Rattle.link.specs.declared.prepared.Prepared.{Prepared}
-use Rattle.link.proofs.Answers.{Answered, done, forged, refusal, answered, stands_for, parts, no_runs}
+use Rattle.link.proofs.Answers.{Answered, done, forged, planned, refusal, answered, stands_for, parts, no_runs}
 use Rattle.link.proofs.Verdicts.{Verdict, sure, SealFits, OpenFits, seal_verdict, open_verdict}
 use Rattle.link.proofs.Entries.{rounds_known_lem, under_record}
 use Rattle.demands.specs.Calls.{key_known, OneOf}
@@ -79,6 +79,7 @@ module _ (z : ℕ) where
       go : Answered r → (number_of (more r) ≡ number_of r) × (length_of (more r) ≡ length_of r)
       go (done n k e) = (ap (λ (x : Answer). number_of (more x)) e ∙ sym (ap number_of e), ap (λ (x : Answer). length_of (more x)) e ∙ sym (ap length_of e))
       go (forged k e) = (ap (λ (x : Answer). number_of (more x)) e ∙ sym (ap number_of e), ap (λ (x : Answer). length_of (more x)) e ∙ sym (ap length_of e))
+      go (planned e) = (ap (λ (x : Answer). number_of (more x)) e ∙ sym (ap number_of e), ap (λ (x : Answer). length_of (more x)) e ∙ sym (ap length_of e))
       go (refusal most none runs stands) =
           let is = sym (stands (length_of r) (z + runs_of r)) in
           (ap number_of is, ap length_of is)

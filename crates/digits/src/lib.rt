@@ -3,7 +3,7 @@
 
 ghost use Rattle.digits.specs.Bounds.{AtMost};
 
-#[derive(Drop)]
+#[derive(Clone, Copy)]
 pub enum Parsed {
     Value(usize),
     Bad,

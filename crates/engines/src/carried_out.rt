@@ -12,7 +12,7 @@ ghost use Rattle.mode.specs.Sealing.{otr_from, from_inputs};
 ghost use Rattle.plans.specs.Plan.{Accepted};
 
 // The masks of one pair, or those behind the pairs.
-#[derive(Drop)]
+#[derive(Clone, Copy)]
 struct Masks {
     left: [u64; 2],
     right: [u64; 2],

@@ -7,12 +7,13 @@ use Rattle.link.specs.Answers.{number_of, length_of, runs_of, answer_of}
 use Rattle.link.specs.declared.answer.Answer.{Answer}
 use Rattle.link.specs.declared.answer.Answer.TheVariants.{Done, Key, Nonce, Tag, Data, Length, Room, Forged, Form, Ended, Edition, SameKey, Plan}
 
--- done with n bytes after k runs; forged after k runs; or another refusal, which has a number of at most 13, no length and no runs, and is
--- the answer that its number stands for
+-- done with n bytes after k runs; forged after k runs; for a plan; or another refusal, which has a number of at most 11, no length and no
+-- runs, and is the answer that its number stands for
 pub data Answered (r : Answer) : Type 0 where
   done : (n k : ℕ) → r ≡ Done n k → Answered r
   forged : (k : ℕ) → r ≡ Forged k → Answered r
-  refusal : number_of r ≤ 13 → length_of r ≡ 0 → runs_of r ≡ 0 → ((n k : ℕ) → r ≡ answer_of (number_of r) n k) → Answered r
+  planned : r ≡ Plan → Answered r
+  refusal : number_of r ≤ 11 → length_of r ≡ 0 → runs_of r ≡ 0 → ((n k : ℕ) → r ≡ answer_of (number_of r) n k) → Answered r
 
 pub answered : (r : Answer) → Answered r
 answered (Done n k) = done n k refl
@@ -27,7 +28,7 @@ answered Form = refusal (omega arith) refl refl (λ n k. refl)
 answered Ended = refusal (omega arith) refl refl (λ n k. refl)
 answered Edition = refusal (omega arith) refl refl (λ n k. refl)
 answered SameKey = refusal (omega arith) refl refl (λ n k. refl)
-answered Plan = refusal (omega arith) refl refl (λ n k. refl)
+answered Plan = planned refl
 
 module _ (r : Answer) where
   -- no case but 0 and 7 carries runs
@@ -37,6 +38,7 @@ module _ (r : Answer) where
       go : Answered r → runs_of r ≡ 0
       go (done n k e) = absurd (not0 (ap number_of e))
       go (forged k e) = absurd (not7 (ap number_of e))
+      go (planned e) = ap runs_of e
       go (refusal most long runs stands) = runs
 
   -- an answer is what its number stands for, with its length if it is done, and its runs if it ran the cipher
@@ -49,6 +51,7 @@ module _ (r : Answer) where
       go : Answered r → r ≡ answer_of (number_of r) n k
       go (done i j e) = e ∙ ap₂ Done (sym (ap length_of e) ∙ long (ap number_of e)) (sym (ap runs_of e) ∙ ran (inl (ap number_of e))) ∙ of (Done i j) e
       go (forged j e) = e ∙ ap Forged (sym (ap runs_of e) ∙ ran (inr (ap number_of e))) ∙ of (Forged j) e
+      go (planned e) = e ∙ of Plan e
       go (refusal most none runs stands) = stands n k
 
   -- so it is its number, its length and its runs

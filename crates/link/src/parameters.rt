@@ -1,6 +1,6 @@
 // The four named parameter sets (source document 000, section 1.2): the numbers that a call takes, its edition and form among them. The
 // sets are v3.1's: what their names end in is not the edition.
-#[derive(Drop)]
+#[derive(Clone, Copy)]
 pub struct Parameters {
     pub edition: usize,
     // 0 is parallel, 1 serial.

@@ -10,7 +10,7 @@ use crate::check;
 
 // The round count, the round keys, and the first mask of the data pass. `prepare` gives a key's own, the round keys not used zero, and
 // E(zero) for the mask. A call takes whatever a record holds.
-#[derive(Drop)]
+#[derive(Clone, Copy)]
 pub struct Prepared {
     pub rounds: usize,
     pub words: [u8; 240],
@@ -18,14 +18,14 @@ pub struct Prepared {
 }
 
 // The answer, done with no bytes written or the refusal 1, and the record.
-#[derive(Drop)]
+#[derive(Clone, Copy)]
 pub struct Preparation {
     pub answer: Answer,
     pub key: Prepared,
 }
 
 // A record of a call's own, and how many times the cipher ran for it.
-#[derive(Drop)]
+#[derive(Clone, Copy)]
 pub struct Own {
     pub key: Prepared,
     pub runs: usize,

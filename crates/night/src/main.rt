@@ -199,23 +199,11 @@ fn seal_prepared(
     let record = preparation.key;
     let mut answer = preparation.answer;
     for _call in 0..calls {
-        let used = again(&record);
         answer = link::seal_with(
-            EDITION, PARALLEL, used, nonce, data, message, TAG_BYTES, out,
+            EDITION, PARALLEL, record, nonce, data, message, TAG_BYTES, out,
         );
     }
     answer
-}
-
-// The record once more: a call keeps the one that it is handed.
-fn again(record: &link::Prepared) -> link::Prepared
-    ensures { result ≡ record.now }
-{
-    link::Prepared {
-        rounds: record.rounds,
-        words: record.words,
-        zero: record.zero,
-    }
 }
 
 fn print(rt: &impl Print, answer: link::Answer, out: &[u8]) -> io::Result<()>

@@ -15,14 +15,14 @@ ghost use Rattle.mode.specs.Message.{pairs_of as count_of, block as block_of, ha
 ghost use Rattle.pairs.specs.Carries.{Carries};
 
 // A block, and how many times the cipher ran for it.
-#[derive(Drop)]
+#[derive(Clone, Copy)]
 pub struct Ran {
     pub block: [u8; 16],
     pub runs: usize,
 }
 
 // The same of a block as words.
-#[derive(Drop)]
+#[derive(Clone, Copy)]
 struct RanWords {
     words: [u64; 2],
     runs: usize,
@@ -178,7 +178,7 @@ pub fn pairs_of(b: usize) -> usize
 }
 
 // What stands behind the pairs: the masks, and how many times the cipher ran for them.
-#[derive(Drop)]
+#[derive(Clone, Copy)]
 pub struct AfterPairs {
     pub left: [u8; 16],
     pub right: [u8; 16],

@@ -15,7 +15,7 @@ ghost use Rattle.parts.specs.State.{between, kept32, behind_state, fed_state};
 
 // Between two calls: the masks of the next pair, the checksum of the pairs that are out, and the bytes that are kept. How many are kept
 // is not held here: it follows from how many were fed.
-#[derive(Drop)]
+#[derive(Clone, Copy)]
 pub struct State {
     pub left: [u8; 16],
     pub right: [u8; 16],
@@ -24,14 +24,14 @@ pub struct State {
 }
 
 // The state once a part is fed, and how many times the cipher ran for it.
-#[derive(Drop)]
+#[derive(Clone, Copy)]
 pub struct Fed {
     pub state: State,
     pub runs: usize,
 }
 
 // What stands behind some pairs: the masks and the checksum, and how many times the cipher ran for them.
-#[derive(Drop)]
+#[derive(Clone, Copy)]
 struct Behind {
     left: [u8; 16],
     right: [u8; 16],

@@ -19,7 +19,7 @@ mod message;
 pub use message::seal_behind;
 
 // Whether the tag matches, and how many times the cipher ran.
-#[derive(Drop)]
+#[derive(Clone, Copy)]
 pub struct Opening {
     pub matches: bool,
     pub runs: usize,

@@ -15,7 +15,7 @@ ghost use Rattle.pairs.specs.Carries.{Carries};
 use pairs::Ran;
 
 // The masks of an edition: L and L' of the first pair, and what is XORed into L' once it is doubled. Nothing is into L.
-#[derive(Drop)]
+#[derive(Clone, Copy)]
 struct Start {
     left: [u8; 16],
     right: [u8; 16],

@@ -23,7 +23,7 @@ use parts::State;
 mod check;
 
 // A sealer goes on, or counts as ended: specs/Sealers.antt says which. How many bytes it keeps follows from how many were fed.
-#[derive(Drop)]
+#[derive(Clone, Copy)]
 pub struct Sealer {
     // The round count and the round keys.
     rounds: usize,
@@ -38,7 +38,7 @@ pub struct Sealer {
 }
 
 // The answer, and the sealer for the next call.
-#[derive(Drop)]
+#[derive(Clone, Copy)]
 pub struct Step {
     pub answer: Answer,
     pub sealer: Sealer,
