@@ -6,7 +6,7 @@ ghost use Rattle.aes.specs.Cipher.{round as round_of, last_round, rounds as roun
 use crate::state;
 
 fn round(table: &[u8; 256], w: &[u8; 240], n: usize, s: [[u8; 4]; 4]) -> [[u8; 4]; 4]
-    requires table_value { table.now ≡ sbox }
+    requires table_lent { table.now ≡ sbox }
     requires n_bound { n ≤ 14 }
     ensures { result ≡ round_of w.now n s }
 {
@@ -17,7 +17,7 @@ fn round(table: &[u8; 256], w: &[u8; 240], n: usize, s: [[u8; 4]; 4]) -> [[u8; 4
 }
 
 fn last_round(table: &[u8; 256], w: &[u8; 240], n: usize, s: [[u8; 4]; 4]) -> [[u8; 4]; 4]
-    requires table_value { table.now ≡ sbox }
+    requires table_lent { table.now ≡ sbox }
     requires n_bound { n ≤ 14 }
     ensures { result ≡ last_round w.now n s }
 {
@@ -27,7 +27,7 @@ fn last_round(table: &[u8; 256], w: &[u8; 240], n: usize, s: [[u8; 4]; 4]) -> [[
 }
 
 fn rounds(table: &[u8; 256], w: &[u8; 240], n: usize, first: [[u8; 4]; 4]) -> [[u8; 4]; 4]
-    requires table_value { table.now ≡ sbox }
+    requires table_lent { table.now ≡ sbox }
     requires n_bound { n ≤ 14 }
     ensures { result ≡ rounds_of w.now n first }
 {
@@ -43,8 +43,8 @@ fn rounds(table: &[u8; 256], w: &[u8; 240], n: usize, first: [[u8; 4]; 4]) -> [[
 
 // The cipher of a block under an expanded key of nr rounds.
 pub fn encrypt(table: &[u8; 256], w: &[u8; 240], nr: usize, block: [u8; 16]) -> [u8; 16]
-    requires table_value { table.now ≡ sbox }
-    requires nr_nonzero { (0 < nr) × (nr ≤ 14) }
+    requires table_lent { table.now ≡ sbox }
+    requires round_count { (0 < nr) × (nr ≤ 14) }
     ensures { result ≡ cipher nr w.now block }
 {
     let s = state::input(block);

@@ -39,8 +39,8 @@ fn xor_word(a: [u8; 4], b: [u8; 4]) -> [u8; 4]
 }
 
 fn temp(table: &[u8; 256], nk: usize, i: usize, a: [u8; 4]) -> [u8; 4]
-    requires table_value { table.now ≡ sbox }
-    requires le_nk { (4 ≤ nk) × ((nk ≤ i) × (i < 11 * nk)) }
+    requires table_lent { table.now ≡ sbox }
+    requires key_words { (4 ≤ nk) × ((nk ≤ i) × (i < 11 * nk)) }
     ensures { result ≡ temp_of nk i a }
 {
     if i % nk == 0 {
@@ -58,8 +58,8 @@ fn temp(table: &[u8; 256], nk: usize, i: usize, a: [u8; 4]) -> [u8; 4]
 }
 
 fn next_word(table: &[u8; 256], w: &[u8], nk: usize, i: usize) -> [u8; 4]
-    requires table_value { table.now ≡ sbox }
-    requires le_nk { (4 ≤ nk) × ((nk ≤ i) × (i < 11 * nk)) }
+    requires table_lent { table.now ≡ sbox }
+    requires key_words { (4 ≤ nk) × ((nk ≤ i) × (i < 11 * nk)) }
     requires i_in_bounds { 4 * i ≤ length w.now }
     ensures { result ≡ next nk i w.now }
 {
@@ -71,8 +71,8 @@ fn next_word(table: &[u8; 256], w: &[u8], nk: usize, i: usize) -> [u8; 4]
 
 // The words behind the key's own, n of them.
 pub fn fill(table: &[u8; 256], w: &mut [u8], nk: usize, n: usize)
-    requires table_value { table.now ≡ sbox }
-    requires le_nk { (4 ≤ nk) × (nk + n ≤ 11 * nk) }
+    requires table_lent { table.now ≡ sbox }
+    requires key_words { (4 ≤ nk) × (nk + n ≤ 11 * nk) }
     requires n_in_bounds { 4 * (nk + n) ≤ length w.old }
     ensures { w.new ≡ lay 0 (words nk (take (4 * nk) w.old) n) w.old }
 {

@@ -51,7 +51,7 @@ pub fn blank() -> [u8; 240]
 
 // The key of nk words and n words more, at the front of 60.
 fn schedule(table: &[u8; 256], key: &[u8], nk: usize, n: usize) -> [u8; 240]
-    requires table_value { table.now ≡ sbox }
+    requires table_lent { table.now ≡ sbox }
     requires key_len { (length key.now ≡ 4 * nk) × (4 ≤ nk) }
     requires n_bound { (nk + n ≤ 60) × (nk + n ≤ 11 * nk) }
     ensures { result ≡ lay 0 (words_of nk key.now n) (zeros 240) }

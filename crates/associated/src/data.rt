@@ -8,8 +8,8 @@ use pairs::Ran;
 
 // The first mask, E of the zero block, which is ciphered only where it is needed.
 pub fn first_q(table: &[u32; 1024], w: &[u8; 240], nr: usize, needed: bool) -> Ran
-    requires table_value { table.now ≡ joined }
-    requires le_nr { (10 ≤ nr) × (nr ≤ 14) }
+    requires table_lent { table.now ≡ joined }
+    requires round_count { (10 ≤ nr) × (nr ≤ 14) }
     ensures block_value { result.block ≡ first_q (cipher nr w.now) needed }
     ensures runs_value { result.runs ≡ length (q_inputs needed) }
 {
@@ -47,8 +47,8 @@ pub fn ta(
     xi: [u8; 16],
     runs: usize,
 ) -> Ran
-    requires table_value { table.now ≡ joined }
-    requires le_nr { (10 ≤ nr) × (nr ≤ 14) }
+    requires table_lent { table.now ≡ joined }
+    requires round_count { (10 ≤ nr) × (nr ≤ 14) }
     requires n_value { (n ≡ (length a.now - 1) / 16) × (runs ≤ n) }
     ensures block_value { (d : DataPass) → mask ≡ d.mask n (ltb (length a.now - 16 * n) 16) → xi ≡ d.xi n a.now → result.block ≡ ta_of (cipher nr w.now) d a.now }
     ensures runs_value { (d : DataPass) → runs ≡ length (d.inputs n a.now) → result.runs ≡ length (ta_inputs (cipher nr w.now) d a.now) }

@@ -39,8 +39,8 @@ fn ta(
     q: [u8; 16],
     a: &[u8],
 ) -> Ran
-    requires table_value { table.now ≡ joined }
-    requires le_nr { (10 ≤ nr) × (nr ≤ 14) }
+    requires table_lent { table.now ≡ joined }
+    requires round_count { (10 ≤ nr) × (nr ≤ 14) }
     ensures block_value { result.block ≡ data_tag (cipher nr w.now) q (edition_of edition form) a.now }
     ensures runs_value { result.runs ≡ length (ta_inputs (cipher nr w.now) (data_pass (cipher nr w.now) q (edition_of edition form)) a.now) }
 {
@@ -75,9 +75,9 @@ pub fn seals_with(
     a: &[u8],
     t: usize,
 ) -> SealsWith
-    requires table_value { table.now ≡ joined }
-    requires le_nr { (10 ≤ nr) × (nr ≤ 14) }
-    requires in_bounds { (1 ≤ length n.now) × ((length n.now ≤ 15) × (t ≤ 16)) }
+    requires table_lent { table.now ≡ joined }
+    requires round_count { (10 ≤ nr) × (nr ≤ 14) }
+    requires lengths { (1 ≤ length n.now) × ((length n.now ≤ 15) × (t ≤ 16)) }
     ensures u_value { result.u ≡ u_of (cipher nr w.now) q (edition_of edition form) n.now a.now t }
     ensures added_value { result.added ≡ added_of (cipher nr w.now) q (edition_of edition form) n.now a.now t }
     ensures runs_value { result.runs ≡ length (call_inputs (cipher nr w.now) q (edition_of edition form) n.now a.now t) }

@@ -5,7 +5,7 @@ ghost use Rattle.mode.specs.Edition.{edition_of};
 ghost use Rattle.mode.specs.Nonce.{format as format_of, nonce_block};
 
 fn format(t: usize, nonce: &[u8]) -> [u8; 16]
-    requires in_bounds { (1 ≤ length nonce.now) × (length nonce.now ≤ 15) }
+    requires lengths { (1 ≤ length nonce.now) × (length nonce.now ≤ 15) }
     requires t_bound { t ≤ 16 }
     ensures { result ≡ format_of t nonce.now }
 {
@@ -27,7 +27,7 @@ fn padded(nonce: &[u8]) -> [u8; 16]
 
 // In the edition with this number.
 pub fn nonce_block(edition: usize, t: usize, nonce: &[u8]) -> [u8; 16]
-    requires in_bounds { (1 ≤ length nonce.now) × (length nonce.now ≤ 15) }
+    requires lengths { (1 ≤ length nonce.now) × (length nonce.now ≤ 15) }
     requires t_bound { t ≤ 16 }
     ensures { (form : ℕ) → result ≡ nonce_block (edition_of edition form) t nonce.now }
 {

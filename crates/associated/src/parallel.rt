@@ -26,8 +26,8 @@ fn data_sum(
     a: &[u8],
     n: usize,
 ) -> DataSum
-    requires table_value { table.now ≡ joined }
-    requires le_nr { (10 ≤ nr) × (nr ≤ 14) }
+    requires table_lent { table.now ≡ joined }
+    requires round_count { (10 ≤ nr) × (nr ≤ 14) }
     requires n_in_bounds { 16 * n ≤ length a.now }
     ensures sum_value { (result.sum ≡ data_sum (cipher nr w.now) first n a.now) × (result.q ≡ doubles n first) }
     ensures runs_value { result.runs ≡ length (sum_inputs first n a.now) }
@@ -100,8 +100,8 @@ pub fn ta(
     q: [u8; 16],
     a: &[u8],
 ) -> Ran
-    requires table_value { table.now ≡ joined }
-    requires le_nr { (10 ≤ nr) × (nr ≤ 14) }
+    requires table_lent { table.now ≡ joined }
+    requires round_count { (10 ≤ nr) × (nr ≤ 14) }
     ensures block_value { result.block ≡ ta_of (cipher nr w.now) (parallel_pass (cipher nr w.now) q (edition_of edition 0)) a.now }
     ensures runs_value { result.runs ≡ length (ta_inputs (cipher nr w.now) (parallel_pass (cipher nr w.now) q (edition_of edition 0)) a.now) }
 {

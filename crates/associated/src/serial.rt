@@ -9,8 +9,8 @@ use pairs::Ran;
 
 // The first n blocks of a, each ciphered with what came out before it.
 fn chain(table: &[u32; 1024], w: &[u8; 240], nr: usize, a: &[u8], n: usize) -> Ran
-    requires table_value { table.now ≡ joined }
-    requires le_nr { (10 ≤ nr) × (nr ≤ 14) }
+    requires table_lent { table.now ≡ joined }
+    requires round_count { (10 ≤ nr) × (nr ≤ 14) }
     requires n_in_bounds { 16 * n ≤ length a.now }
     ensures block_value { result.block ≡ chain_of (cipher nr w.now) n a.now }
     ensures runs_value { result.runs ≡ length (chain_inputs (cipher nr w.now) n a.now) }
@@ -42,8 +42,8 @@ fn chain_mask(q: [u8; 16], n: usize) -> [u8; 16]
 }
 
 pub fn ta(table: &[u32; 1024], w: &[u8; 240], nr: usize, q: [u8; 16], a: &[u8]) -> Ran
-    requires table_value { table.now ≡ joined }
-    requires le_nr { (10 ≤ nr) × (nr ≤ 14) }
+    requires table_lent { table.now ≡ joined }
+    requires round_count { (10 ≤ nr) × (nr ≤ 14) }
     ensures block_value { result.block ≡ ta_of (cipher nr w.now) (serial_pass (cipher nr w.now) q) a.now }
     ensures runs_value { result.runs ≡ length (ta_inputs (cipher nr w.now) (serial_pass (cipher nr w.now) q) a.now) }
 {

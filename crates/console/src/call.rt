@@ -113,7 +113,7 @@ pub fn plan<W: Write>(
 // Begins a sealing, whose sealer takes the place of the one before it.
 pub fn begin<W: Write>(to: &mut W, line: &[u8], request: Beginning, text: &mut [u8]) -> Replied
     requires set { Set (length line.now) request.settings }
-    requires in_bounds { 65 ≤ length text.old }
+    requires text_room { 65 ≤ length text.old }
 {
     let settings = request.settings;
     let key = bytes_of(line, settings.key);

@@ -287,15 +287,12 @@ fn parse_rooms(
     requires new_set { Set (length line.now) new }
     ensures { Good (length line.now) result }
 {
-    let Field::Number(room, next) = fields::number(line, from) else {
+    let Last::Numbers(room, work) = parse_last(line, from) else {
         return Line::Bad;
     };
     if MOST_ROOM < room {
         return Line::Bad;
     }
-    let Parsed::Value(work) = parse_room(line, next) else {
-        return Line::Bad;
-    };
     Line::Carry(Carrying {
         edition,
         old,
@@ -378,10 +375,7 @@ fn parse_strings(
     requires { Held (length line.old) key }
     ensures { Good (length line.new) result }
 {
-    let Two::Bytes(nonce, data, next) = fields::pair(line, from) else {
-        return Line::Bad;
-    };
-    let Field::Bytes(message, next) = fields::bytes(line, next) else {
+    let Three::Bytes(nonce, data, message, next) = fields::triple(line, from) else {
         return Line::Bad;
     };
     let strings = Strings {
@@ -405,10 +399,7 @@ fn parse_numbers(
     requires { Within (length line.now) strings }
     ensures { Good (length line.now) result }
 {
-    let Field::Number(tag, next) = fields::number(line, from) else {
-        return Line::Bad;
-    };
-    let Parsed::Value(room) = parse_room(line, next) else {
+    let Last::Numbers(tag, room) = parse_last(line, from) else {
         return Line::Bad;
     };
     Line::Request(Request {

@@ -26,8 +26,8 @@ fn seal_two(
     at: usize,
     out: &mut [u8],
 ) -> Ran
-    requires table_value { table.now ≡ joined }
-    requires le_nr { (10 ≤ nr) × (nr ≤ 14) }
+    requires table_lent { table.now ≡ joined }
+    requires round_count { (10 ≤ nr) × (nr ≤ 14) }
     requires at_in_bounds { (at + 16 < length m.now) × ((length m.now ≤ at + 32) × (length m.now ≤ length out.old)) }
     ensures out_after { out.new ≡ lay at (ending (cipher nr w.now) true l r (drop at m.now)) out.old }
     ensures block_value { result.block ≡ end_sum (cipher nr w.now) true l (drop at m.now) }
@@ -58,8 +58,8 @@ fn open_two(
     at: usize,
     out: &mut [u8],
 ) -> Ran
-    requires table_value { table.now ≡ joined }
-    requires le_nr { (10 ≤ nr) × (nr ≤ 14) }
+    requires table_lent { table.now ≡ joined }
+    requires round_count { (10 ≤ nr) × (nr ≤ 14) }
     requires at_in_bounds { (at + 16 < length c.now) × ((length c.now ≤ at + 32) × (length c.now ≤ length out.old)) }
     ensures out_after { out.new ≡ lay at (unending (cipher nr w.now) true l r (drop at c.now)) out.old }
     ensures block_value { result.block ≡ undone_sum (cipher nr w.now) true l r (drop at c.now) }
@@ -89,8 +89,8 @@ fn one(
     at: usize,
     out: &mut [u8],
 ) -> Ran
-    requires table_value { table.now ≡ joined }
-    requires le_nr { (10 ≤ nr) × (nr ≤ 14) }
+    requires table_lent { table.now ≡ joined }
+    requires round_count { (10 ≤ nr) × (nr ≤ 14) }
     requires at_in_bounds { (at ≤ length src.now) × ((length src.now ≤ at + 16) × (length src.now ≤ length out.old)) }
     ensures out_after { out.new ≡ lay at (xor (drop at src.now) (cipher nr w.now l)) out.old }
     ensures block_value { take (length src.now - at) result.block ≡ xor (drop at src.now) (cipher nr w.now l) }
@@ -119,8 +119,8 @@ fn seal_one(
     at: usize,
     out: &mut [u8],
 ) -> Ran
-    requires table_value { table.now ≡ joined }
-    requires le_nr { (10 ≤ nr) × (nr ≤ 14) }
+    requires table_lent { table.now ≡ joined }
+    requires round_count { (10 ≤ nr) × (nr ≤ 14) }
     requires at_in_bounds { (at ≤ length m.now) × ((length m.now ≤ at + 16) × (length m.now ≤ length out.old)) }
     ensures out_after { out.new ≡ lay at (ending (cipher nr w.now) false l l (drop at m.now)) out.old }
     ensures block_value { result.block ≡ end_sum (cipher nr w.now) false l (drop at m.now) }
@@ -144,8 +144,8 @@ fn open_one(
     at: usize,
     out: &mut [u8],
 ) -> Ran
-    requires table_value { table.now ≡ joined }
-    requires le_nr { (10 ≤ nr) × (nr ≤ 14) }
+    requires table_lent { table.now ≡ joined }
+    requires round_count { (10 ≤ nr) × (nr ≤ 14) }
     requires at_in_bounds { (at ≤ length c.now) × ((length c.now ≤ at + 16) × (length c.now ≤ length out.old)) }
     ensures out_after { out.new ≡ lay at (unending (cipher nr w.now) false l l (drop at c.now)) out.old }
     ensures block_value { result.block ≡ undone_sum (cipher nr w.now) false l l (drop at c.now) }
@@ -171,8 +171,8 @@ pub fn seal_rest(
     at: usize,
     out: &mut [u8],
 ) -> Ran
-    requires table_value { table.now ≡ joined }
-    requires le_nr { (10 ≤ nr) × (nr ≤ 14) }
+    requires table_lent { table.now ≡ joined }
+    requires round_count { (10 ≤ nr) × (nr ≤ 14) }
     requires at_in_bounds { (at ≤ length m.now) × ((length m.now ≤ at + 32) × (length m.now ≤ length out.old)) }
     ensures out_after { out.new ≡ lay at (ending (cipher nr w.now) (ltb (at + 16) (length m.now)) l r (drop at m.now)) out.old }
     ensures block_value { result.block ≡ end_sum (cipher nr w.now) (ltb (at + 16) (length m.now)) l (drop at m.now) }
@@ -195,8 +195,8 @@ pub fn open_rest(
     at: usize,
     out: &mut [u8],
 ) -> Ran
-    requires table_value { table.now ≡ joined }
-    requires le_nr { (10 ≤ nr) × (nr ≤ 14) }
+    requires table_lent { table.now ≡ joined }
+    requires round_count { (10 ≤ nr) × (nr ≤ 14) }
     requires at_in_bounds { (at ≤ length c.now) × ((length c.now ≤ at + 32) × (length c.now ≤ length out.old)) }
     ensures out_after { out.new ≡ lay at (unending (cipher nr w.now) (ltb (at + 16) (length c.now)) l r (drop at c.now)) out.old }
     ensures block_value { result.block ≡ undone_sum (cipher nr w.now) (ltb (at + 16) (length c.now)) l r (drop at c.now) }
@@ -261,8 +261,8 @@ pub fn te(
     n: usize,
     s: [u8; 16],
 ) -> Ran
-    requires table_value { table.now ≡ joined }
-    requires le_nr { (10 ≤ nr) × (nr ≤ 14) }
+    requires table_lent { table.now ≡ joined }
+    requires round_count { (10 ≤ nr) × (nr ≤ 14) }
     ensures block_value { result.block ≡ cipher nr w.now (xor (final (masks_of (edition_of edition 0) u) (ltb (last_length (ltb 16 n) n) 16) (base (ltb 16 n) l r)) s) }
     ensures runs_value { result.runs ≡ length (xor (final (masks_of (edition_of edition 0) u) (ltb (last_length (ltb 16 n) n) 16) (base (ltb 16 n) l r)) s ∷ []) }
 {

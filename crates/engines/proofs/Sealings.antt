@@ -1,6 +1,6 @@
 -- From the checks, the plan's check and the plan carried out to the promise. Assumes nothing.
 use mathlib.Core.Path.{◌≡◌, refl, sym, ap, subst}
-use mathlib.Core.Bool.{Bool, true, false, not}
+use mathlib.Core.Bool.{Bool, true, false}
 use mathlib.Core.List.{List}
 use Prim.Native.Nat.{ℕ}
 use native.Mathlib.Omega.{arith}
@@ -23,16 +23,16 @@ module _ (c : Check) (k : ℕ) (bytes : List ℕ) (pairs : ℕ) (plan out : List
 
   -- the checks have passed, and the plan is judged
   module _ (n : ℕ) (come : c ≡ pass n) where
-    pub not_accepted : (b : Bool) → not b ≡ true → Judged b pairs plan → PlannedBy c k bytes pairs plan out Plan out
+    pub not_accepted : (b : Bool) → b ≡ false → Judged b pairs plan → PlannedBy c k bytes pairs plan out Plan out
     not_accepted true e j = absurd (let z : ◌≡◌ {A = ℕ} 0 1 = cc in omega arith)
     not_accepted false e j = subst (λ (x : Check). PlannedBy x k bytes pairs plan out Plan out) (sym come) (false, j, (refl, refl))
 
-    pub is_accepted : (b : Bool) → not b ≡ false → Judged b pairs plan → (r : Answer) (after : List ℕ)
+    pub is_accepted : (b : Bool) → b ≡ true → Judged b pairs plan → (r : Answer) (after : List ℕ)
         → SealsBy (pass n) k bytes out r after → PlannedBy c k bytes pairs plan out r after
     is_accepted true e j r after p = subst (λ (x : Check). PlannedBy x k bytes pairs plan out r after) (sym come) (true, j, p)
     is_accepted false e j r after p = absurd (let z : ◌≡◌ {A = ℕ} 0 1 = cc in omega arith)
 
 -- a plan that is not refused
-pub accepted_so : (b : Bool) (n : ℕ) (plan : List ℕ) → not b ≡ false → Judged b n plan → Accepted n plan
+pub accepted_so : (b : Bool) (n : ℕ) (plan : List ℕ) → b ≡ true → Judged b n plan → Accepted n plan
 accepted_so true n plan e j = j
 accepted_so false n plan e j = absurd (let z : ◌≡◌ {A = ℕ} 0 1 = cc in omega arith)

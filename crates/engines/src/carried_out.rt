@@ -40,11 +40,11 @@ fn pair_alone(
     i: usize,
     out: &mut [u8],
 ) -> usize
-    requires table_value { table.now ≡ joined }
-    requires le_nr { (10 ≤ nr) × (nr ≤ 14) }
+    requires table_lent { table.now ≡ joined }
+    requires round_count { (10 ≤ nr) × (nr ≤ 14) }
     requires i_in_bounds { (32 * i + 32 ≤ length m.now) × (32 * i + 32 ≤ length out.old) }
     ensures out_after { out.new ≡ lay (32 * i) (pair_of (cipher nr w.now) ((third (bytes_of u)).left i) ((third (bytes_of u)).right i) (block_of m.now (32 * i)) (block_of m.now (32 * i + 16))) out.old }
-    ensures value { result ≡ 2 }
+    ensures runs_value { result ≡ 2 }
 {
     let k = masks_of(u, i);
     let l = k.left;
@@ -62,12 +62,12 @@ fn planned_pairs(
     plan: &[u8],
     out: &mut [u8],
 ) -> usize
-    requires table_value { table.now ≡ joined }
-    requires le_nr { (10 ≤ nr) × (nr ≤ 14) }
+    requires table_lent { table.now ≡ joined }
+    requires round_count { (10 ≤ nr) × (nr ≤ 14) }
     requires accepted { Accepted (count_of (length m.now)) plan.now }
-    requires m_in_bounds { length m.now ≤ length out.old }
+    requires room { length m.now ≤ length out.old }
     ensures out_after { out.new ≡ lay 0 (pairs_of (cipher nr w.now) (third u) (count_of (length m.now)) m.now) out.old }
-    ensures value { result ≡ length (pairs_inputs (cipher nr w.now) (third u) (count_of (length m.now)) m.now) }
+    ensures runs_value { result ≡ length (pairs_inputs (cipher nr w.now) (third u) (count_of (length m.now)) m.now) }
 {
     let first = block::to_words(u);
     let n = plan.len() / 3;
@@ -95,13 +95,13 @@ pub fn seal(
     plan: &[u8],
     out: &mut [u8],
 ) -> usize
-    requires table_value { table.now ≡ joined }
-    requires le_nr { (10 ≤ nr) × (nr ≤ 14) }
-    requires in_bounds { (1 ≤ length n.now) × ((length n.now ≤ 15) × (t ≤ 16)) }
+    requires table_lent { table.now ≡ joined }
+    requires round_count { (10 ≤ nr) × (nr ≤ 14) }
+    requires lengths { (1 ≤ length n.now) × ((length n.now ≤ 15) × (t ≤ 16)) }
     requires accepted { Accepted (count_of (length m.now)) plan.now }
-    requires t_in_bounds { length m.now + t ≤ length out.old }
+    requires room { length m.now + t ≤ length out.old }
     ensures out_after { out.new ≡ lay 0 (otr_from (cipher nr w.now) q (edition_of 3 0) n.now a.now t m.now) out.old }
-    ensures value { result ≡ length (from_inputs (cipher nr w.now) q (edition_of 3 0) n.now a.now t m.now) }
+    ensures runs_value { result ≡ length (from_inputs (cipher nr w.now) q (edition_of 3 0) n.now a.now t m.now) }
 {
     let with = associated::seals_with(3, 0, table, w, nr, q, n, a, t);
     let u = with.u;

@@ -7,7 +7,7 @@ ghost use Rattle.aes.specs.Cipher.{round as round_of, last_round, rounds as roun
 use crate::column;
 
 fn round(t: &[u32; 1024], w: &[u8; 240], n: usize, s: [[u8; 4]; 4]) -> [[u8; 4]; 4]
-    requires t_value { t.now ≡ joined }
+    requires table_lent { t.now ≡ joined }
     requires n_bound { n ≤ 14 }
     ensures { result ≡ round_of w.now n s }
 {
@@ -22,7 +22,7 @@ fn round(t: &[u32; 1024], w: &[u8; 240], n: usize, s: [[u8; 4]; 4]) -> [[u8; 4];
 }
 
 fn last_round(t: &[u32; 1024], w: &[u8; 240], n: usize, s: [[u8; 4]; 4]) -> [[u8; 4]; 4]
-    requires t_value { t.now ≡ joined }
+    requires table_lent { t.now ≡ joined }
     requires n_bound { n ≤ 14 }
     ensures { result ≡ last_round w.now n s }
 {
@@ -48,8 +48,8 @@ fn nine(t: &[u32; 1024], w: &[u8; 240], first: [[u8; 4]; 4]) -> [[u8; 4]; 4]
 }
 
 fn rounds(t: &[u32; 1024], w: &[u8; 240], n: usize, first: [[u8; 4]; 4]) -> [[u8; 4]; 4]
-    requires t_value { t.now ≡ joined }
-    requires le_n { (9 ≤ n) × (n ≤ 14) }
+    requires table_lent { t.now ≡ joined }
+    requires round_count { (9 ≤ n) × (n ≤ 14) }
     ensures { result ≡ rounds_of w.now n first }
 {
     let mut s = nine(t, w, first);
@@ -64,8 +64,8 @@ fn rounds(t: &[u32; 1024], w: &[u8; 240], n: usize, first: [[u8; 4]; 4]) -> [[u8
 
 // The cipher of a block under an expanded key of nr rounds.
 pub fn encrypt(t: &[u32; 1024], w: &[u8; 240], nr: usize, block: [u8; 16]) -> [u8; 16]
-    requires t_value { t.now ≡ joined }
-    requires le_nr { (10 ≤ nr) × (nr ≤ 14) }
+    requires table_lent { t.now ≡ joined }
+    requires round_count { (10 ≤ nr) × (nr ≤ 14) }
     ensures { result ≡ cipher nr w.now block }
 {
     let s = aes::input(block);

@@ -22,7 +22,7 @@ fn looked_up(t: &[u32; 1024], k: u32, a: u8, b: u8, c: u8, d: u8) -> [u8; 4]
 
 // A column of a round and word i of the expanded key.
 pub fn round_column(t: &[u32; 1024], w: &[u8; 240], i: usize, a: [u8; 4]) -> [u8; 4]
-    requires t_value { t.now ≡ joined }
+    requires table_lent { t.now ≡ joined }
     requires i_bound { i < 60 }
     ensures { result ≡ xor (mixed_column (sub_word a)) (word w.now i) }
 {

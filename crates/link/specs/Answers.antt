@@ -50,6 +50,6 @@ runs_of SameKey = 0
 runs_of Plan = 0
 
 -- the answer that a number from 0 to 11, or 13, stands for, where a call that is done has length n, and one that ran the cipher ran it
--- k times; no answer has another number
+-- k times; no answer has another number, which gives that of 11
 abbrev pub answer_of : ℕ → ℕ → ℕ → Answer
 answer_of i n k = get_or (Done n k ∷ Key ∷ Nonce ∷ Tag ∷ Data ∷ Length ∷ Room ∷ Forged k ∷ Form ∷ Ended ∷ Edition ∷ SameKey ∷ SameKey ∷ Plan ∷ []) i SameKey

@@ -33,8 +33,8 @@ pub struct Own {
 
 // The record of a raw key, with E(zero) where it is needed.
 fn record_of(tables: &[u32; 1024], key: &[u8], needed: bool) -> Own
-    requires tables_value { tables.now ≡ joined }
-    requires key_value { known_key (length key.now) ≡ true }
+    requires table_lent { tables.now ≡ joined }
+    requires known { known_key (length key.now) ≡ true }
     ensures { result ≡ own_of key.now needed }
 {
     let table = field::sbox();
@@ -56,8 +56,8 @@ fn record_of(tables: &[u32; 1024], key: &[u8], needed: bool) -> Own
 
 // The record that a call with a raw key makes of it. The data pass needs E(zero) only where there is data.
 pub fn own_record(tables: &[u32; 1024], key: &[u8], ad: &[u8]) -> Own
-    requires tables_value { tables.now ≡ joined }
-    requires key_value { known_key (length key.now) ≡ true }
+    requires table_lent { tables.now ≡ joined }
+    requires known { known_key (length key.now) ≡ true }
     ensures { result ≡ own_of key.now (with_data ad.now) }
 {
     record_of(tables, key, 0 < ad.len())

@@ -20,10 +20,10 @@ pub fn seal(
     tag: usize,
     out: &mut [u8],
 ) -> Answer
-    requires tables_value { tables.now ≡ joined }
-    requires le_rounds { (10 ≤ key.rounds) × (key.rounds ≤ 14) }
-    requires in_bounds { (1 ≤ length nonce.now) × ((length nonce.now ≤ 15) × (tag ≤ 16)) }
-    requires tag_in_bounds { (length message.now + tag ≤ length out.old) × (before ≤ 1) }
+    requires table_lent { tables.now ≡ joined }
+    requires round_count { (10 ≤ key.rounds) × (key.rounds ≤ 14) }
+    requires lengths { (1 ≤ length nonce.now) × ((length nonce.now ≤ 15) × (tag ≤ 16)) }
+    requires room { (length message.now + tag ≤ length out.old) × (before ≤ 1) }
     ensures { SealsBy (pass (length message.now + tag)) (before + seal_runs_with edition form key nonce.now ad.now tag message.now) (sealing_with edition form key nonce.now ad.now tag message.now) out.old result out.new }
 {
     let nr = key.rounds;
@@ -49,10 +49,10 @@ pub fn open(
     tag: usize,
     out: &mut [u8],
 ) -> Answer
-    requires tables_value { tables.now ≡ joined }
-    requires le_rounds { (10 ≤ key.rounds) × (key.rounds ≤ 14) }
-    requires in_bounds { (1 ≤ length nonce.now) × ((length nonce.now ≤ 15) × (tag ≤ 16)) }
-    requires tag_in_bounds { (tag ≤ length sealed.now) × ((length sealed.now - tag ≤ length out.old) × (before ≤ 1)) }
+    requires table_lent { tables.now ≡ joined }
+    requires round_count { (10 ≤ key.rounds) × (key.rounds ≤ 14) }
+    requires lengths { (1 ≤ length nonce.now) × ((length nonce.now ≤ 15) × (tag ≤ 16)) }
+    requires room { (tag ≤ length sealed.now) × ((length sealed.now - tag ≤ length out.old) × (before ≤ 1)) }
     ensures { OpensBy (pass (length sealed.now - tag)) (before + open_runs_with edition form key nonce.now ad.now tag sealed.now) (sealing_with edition form key nonce.now ad.now tag) sealed.now out.old result out.new }
 {
     let nr = key.rounds;

@@ -146,7 +146,7 @@ fn seal(
     out: &mut [u8],
     calls: usize,
 ) -> link::Answer
-    requires in_bounds { 16 ≤ length string.now }
+    requires string_long { 16 ≤ length string.now }
     requires key_in_bounds { key ≤ length string.now }
     requires message_in_bounds { message ≤ length string.now }
 {

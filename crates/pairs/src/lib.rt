@@ -37,8 +37,8 @@ fn half_words(
     x: [u64; 2],
     y: [u64; 2],
 ) -> RanWords
-    requires table_value { table.now ≡ joined }
-    requires le_nr { (10 ≤ nr) × (nr ≤ 14) }
+    requires table_lent { table.now ≡ joined }
+    requires round_count { (10 ≤ nr) × (nr ≤ 14) }
     ensures words_value { bytes_of result.words ≡ half_of (cipher nr w.now) (bytes_of l) (bytes_of x) (bytes_of y) }
     ensures runs_value { result.runs ≡ length (half_inputs (cipher nr w.now) (bytes_of l) (bytes_of x)) }
 {
@@ -59,8 +59,8 @@ pub fn half(
     x: [u8; 16],
     y: [u8; 16],
 ) -> Ran
-    requires table_value { table.now ≡ joined }
-    requires le_nr { (10 ≤ nr) × (nr ≤ 14) }
+    requires table_lent { table.now ≡ joined }
+    requires round_count { (10 ≤ nr) × (nr ≤ 14) }
     ensures block_value { result.block ≡ half_of (cipher nr w.now) l x y }
     ensures runs_value { result.runs ≡ length (half_inputs (cipher nr w.now) l x) }
 {
@@ -114,11 +114,11 @@ pub fn pair(
     at: usize,
     out: &mut [u8],
 ) -> usize
-    requires table_value { table.now ≡ joined }
-    requires le_nr { (10 ≤ nr) × (nr ≤ 14) }
+    requires table_lent { table.now ≡ joined }
+    requires round_count { (10 ≤ nr) × (nr ≤ 14) }
     requires at_in_bounds { (at + 32 ≤ length src.now) × (at + 32 ≤ length out.old) }
     ensures out_after { out.new ≡ lay at (pair_of (cipher nr w.now) (bytes_of l) (bytes_of r) (block_of src.now at) (block_of src.now (at + 16))) out.old }
-    ensures value { result ≡ length (pair_inputs (cipher nr w.now) (bytes_of l) (bytes_of r) (block_of src.now at) (block_of src.now (at + 16))) }
+    ensures runs_value { result ≡ length (pair_inputs (cipher nr w.now) (bytes_of l) (bytes_of r) (block_of src.now at) (block_of src.now (at + 16))) }
 {
     let p = read_words(src, at);
     let q = read_words(src, at + 16);
@@ -144,11 +144,11 @@ fn two_pairs(
     at: usize,
     out: &mut [u8],
 ) -> usize
-    requires table_value { table.now ≡ joined }
-    requires le_nr { (10 ≤ nr) × (nr ≤ 14) }
+    requires table_lent { table.now ≡ joined }
+    requires round_count { (10 ≤ nr) × (nr ≤ 14) }
     requires at_in_bounds { (at + 64 ≤ length src.now) × (at + 64 ≤ length out.old) }
     ensures out_after { out.new ≡ lay (at + 32) (pair_of (cipher nr w.now) (bytes_of next_l) (bytes_of next_r) (block_of src.now (at + 32)) (block_of src.now (at + 48))) (lay at (pair_of (cipher nr w.now) (bytes_of l) (bytes_of r) (block_of src.now at) (block_of src.now (at + 16))) out.old) }
-    ensures value { result ≡ length (pair_inputs (cipher nr w.now) (bytes_of l) (bytes_of r) (block_of src.now at) (block_of src.now (at + 16))) + length (pair_inputs (cipher nr w.now) (bytes_of next_l) (bytes_of next_r) (block_of src.now (at + 32)) (block_of src.now (at + 48))) }
+    ensures runs_value { result ≡ length (pair_inputs (cipher nr w.now) (bytes_of l) (bytes_of r) (block_of src.now at) (block_of src.now (at + 16))) + length (pair_inputs (cipher nr w.now) (bytes_of next_l) (bytes_of next_r) (block_of src.now (at + 32)) (block_of src.now (at + 48))) }
 {
     let p = read_words(src, at);
     let q = read_words(src, at + 16);
@@ -186,7 +186,7 @@ pub struct AfterPairs {
 }
 
 fn after_pairs(left: [u64; 2], right: [u64; 2], runs: usize) -> AfterPairs
-    ensures left_value { (result.left ≡ bytes_of left) × (result.right ≡ bytes_of right) }
+    ensures masks_after { (result.left ≡ bytes_of left) × (result.right ≡ bytes_of right) }
     ensures runs_value { result.runs ≡ runs }
 {
     AfterPairs {
@@ -216,11 +216,11 @@ pub fn pairs(
     n: usize,
     out: &mut [u8],
 ) -> AfterPairs
-    requires table_value { table.now ≡ joined }
-    requires le_nr { (10 ≤ nr) × (nr ≤ 14) }
+    requires table_lent { table.now ≡ joined }
+    requires round_count { (10 ≤ nr) × (nr ≤ 14) }
     requires n_in_bounds { (32 * n ≤ length src.now) × (32 * n ≤ length out.old) }
     ensures out_after { (k : Masks) → Carries k l a r b → out.new ≡ lay 0 (pairs_of (cipher nr w.now) k n src.now) out.old }
-    ensures left_value { (k : Masks) → Carries k l a r b → (result.left ≡ k.left n) × (result.right ≡ k.right n) }
+    ensures masks_after { (k : Masks) → Carries k l a r b → (result.left ≡ k.left n) × (result.right ≡ k.right n) }
     ensures runs_value { (k : Masks) → result.runs ≡ length (pairs_inputs (cipher nr w.now) k n src.now) }
 {
     let left_step = block::to_words(a);

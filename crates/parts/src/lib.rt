@@ -68,11 +68,11 @@ fn next_pairs(
     n: usize,
     out: &mut [u8],
 ) -> Behind
-    requires table_value { table.now ≡ joined }
-    requires le_nr { (10 ≤ nr) × (nr ≤ 14) }
+    requires table_lent { table.now ≡ joined }
+    requires round_count { (10 ≤ nr) × (nr ≤ 14) }
     requires n_in_bounds { (32 * n ≤ length src.now) × (32 * n ≤ length out.old) }
     ensures out_after { out.new ≡ lay 0 (pairs_from (cipher nr w.now) (doubled l r) n src.now) out.old }
-    ensures left_value { (result.left ≡ doubles n l) × ((result.right ≡ doubles n r) × (result.sum ≡ xor s (sum_of n src.now))) }
+    ensures masks_after { (result.left ≡ doubles n l) × ((result.right ≡ doubles n r) × (result.sum ≡ xor s (sum_of n src.now))) }
     ensures runs_value { result.runs ≡ length (pairs_inputs (cipher nr w.now) (doubled l r) n src.now) }
 {
     let none = block::zeros();
@@ -97,11 +97,11 @@ fn first_pair(
     part: &[u8],
     out: &mut [u8],
 ) -> Behind
-    requires table_value { table.now ≡ joined }
-    requires le_nr { (10 ≤ nr) × (nr ≤ 14) }
+    requires table_lent { table.now ≡ joined }
+    requires round_count { (10 ≤ nr) × (nr ≤ 14) }
     requires held_bound { (held ≤ 32) × ((32 ≤ held + length part.now) × (32 ≤ length out.old)) }
     ensures out_after { out.new ≡ lay 0 (pairs_from (cipher nr w.now) (between state held).masks 1 ((between state held).kept ++ part.now)) out.old }
-    ensures left_value { (result.left ≡ doubles 1 state.left) × ((result.right ≡ doubles 1 state.right) × (result.sum ≡ xor state.sum (sum_of 1 ((between state held).kept ++ part.now)))) }
+    ensures masks_after { (result.left ≡ doubles 1 state.left) × ((result.right ≡ doubles 1 state.right) × (result.sum ≡ xor state.sum (sum_of 1 ((between state held).kept ++ part.now)))) }
     ensures runs_value { result.runs ≡ 2 }
 {
     let l = state.left;
@@ -123,13 +123,13 @@ fn later_pairs(
     n: usize,
     out: &mut [u8],
 ) -> Fed
-    requires table_value { table.now ≡ joined }
-    requires le_nr { (10 ≤ nr) × (nr ≤ 14) }
+    requires table_lent { table.now ≡ joined }
+    requires round_count { (10 ≤ nr) × (nr ≤ 14) }
     requires n_in_bounds { (32 * n ≤ length tail.now) × ((length tail.now ≤ 32 * n + 32) × (32 * n ≤ length out.old)) }
-    requires runs_value { front.runs ≡ 2 }
+    requires front_runs { front.runs ≡ 2 }
     ensures out_after { out.new ≡ lay 0 (pairs_from (cipher nr w.now) (doubled front.left front.right) n tail.now) out.old }
     ensures state_value { result.state ≡ behind_state front.left front.right front.sum n tail.now }
-    ensures runs_value_2 { result.runs ≡ 2 + 2 * n }
+    ensures runs_value { result.runs ≡ 2 + 2 * n }
 {
     let l = front.left;
     let r = front.right;
@@ -163,8 +163,8 @@ pub fn feed(
     part: &[u8],
     out: &mut [u8],
 ) -> Fed
-    requires table_value { table.now ≡ joined }
-    requires le_nr { (10 ≤ nr) × (nr ≤ 14) }
+    requires table_lent { table.now ≡ joined }
+    requires round_count { (10 ≤ nr) × (nr ≤ 14) }
     requires held_bound { (held ≤ 32) × ((n ≡ pairs_of (held + length part.now)) × ((1 ≤ n) × (32 * n ≤ length out.old))) }
     ensures out_after { out.new ≡ lay 0 (fed_bytes (cipher nr w.now) (between state held) part.now) out.old }
     ensures state_value { result.state ≡ fed_state state held part.now }
@@ -203,11 +203,11 @@ pub fn end(
     t: usize,
     out: &mut [u8],
 ) -> usize
-    requires table_value { table.now ≡ joined }
-    requires le_nr { (10 ≤ nr) × (nr ≤ 14) }
+    requires table_lent { table.now ≡ joined }
+    requires round_count { (10 ≤ nr) × (nr ≤ 14) }
     requires held_bound { (held ≤ 32) × ((t ≤ 16) × (held + t ≤ length out.old)) }
     ensures out_after { out.new ≡ lay 0 (end_bytes (cipher nr w.now) added t (between state held)) out.old }
-    ensures value { result ≡ length (end_inputs (cipher nr w.now) (between state held)) }
+    ensures runs_value { result ≡ length (end_inputs (cipher nr w.now) (between state held)) }
 {
     let l = state.left;
     let r = state.right;

@@ -40,12 +40,12 @@ pub fn seal(
     t: usize,
     out: &mut [u8],
 ) -> usize
-    requires table_value { table.now ≡ joined }
-    requires le_nr { (10 ≤ nr) × (nr ≤ 14) }
-    requires in_bounds { (1 ≤ length n.now) × ((length n.now ≤ 15) × (t ≤ 16)) }
-    requires t_in_bounds { length m.now + t ≤ length out.old }
+    requires table_lent { table.now ≡ joined }
+    requires round_count { (10 ≤ nr) × (nr ≤ 14) }
+    requires lengths { (1 ≤ length n.now) × ((length n.now ≤ 15) × (t ≤ 16)) }
+    requires room { length m.now + t ≤ length out.old }
     ensures out_after { out.new ≡ lay 0 (otr_from (cipher nr w.now) q (edition_of edition form) n.now a.now t m.now) out.old }
-    ensures value { result ≡ length (from_inputs (cipher nr w.now) q (edition_of edition form) n.now a.now t m.now) }
+    ensures runs_value { result ≡ length (from_inputs (cipher nr w.now) q (edition_of edition form) n.now a.now t m.now) }
 {
     let with = associated::seals_with(edition, form, table, w, nr, q, n, a, t);
     let u = with.u;
@@ -70,10 +70,10 @@ pub fn open(
     t: usize,
     out: &mut [u8],
 ) -> Opening
-    requires table_value { table.now ≡ joined }
-    requires le_nr { (10 ≤ nr) × (nr ≤ 14) }
-    requires in_bounds { (1 ≤ length n.now) × ((length n.now ≤ 15) × (t ≤ 16)) }
-    requires t_in_bounds { (t ≤ length s.now) × (length s.now - t ≤ length out.old) }
+    requires table_lent { table.now ≡ joined }
+    requires round_count { (10 ≤ nr) × (nr ≤ 14) }
+    requires lengths { (1 ≤ length n.now) × ((length n.now ≤ 15) × (t ≤ 16)) }
+    requires room { (t ≤ length s.now) × (length s.now - t ≤ length out.old) }
     ensures matches_value { result.matches ≡ flag (found_from (cipher nr w.now) q (edition_of edition form) n.now a.now t s.now) }
     ensures out_after { out.new ≡ shown (found_from (cipher nr w.now) q (edition_of edition form) n.now a.now t s.now) (length s.now - t) out.old }
     ensures runs_value { result.runs ≡ length (found_from_inputs (cipher nr w.now) q (edition_of edition form) n.now a.now t s.now) }

@@ -56,13 +56,13 @@ pub fn seal_behind(
     m: &[u8],
     out: &mut [u8],
 ) -> Ran
-    requires table_value { table.now ≡ joined }
-    requires le_nr { (10 ≤ nr) × (nr ≤ 14) }
-    requires l_value { (l ≡ (masks_of (edition_of edition 0) u).left (pairs_of (length m.now))) × (r ≡ (masks_of (edition_of edition 0) u).right (pairs_of (length m.now))) }
-    requires m_in_bounds { length m.now ≤ length out.old }
-    ensures by_index { (o : List ℕ) → out.old ≡ lay 0 (pairs (cipher nr w.now) (masks_of (edition_of edition 0) u) (pairs_of (length m.now)) m.now) o → length m.now ≤ length o → out.new ≡ lay 0 (body (cipher nr w.now) (masks_of (edition_of edition 0) u) m.now) o }
+    requires table_lent { table.now ≡ joined }
+    requires round_count { (10 ≤ nr) × (nr ≤ 14) }
+    requires masks_there { (l ≡ (masks_of (edition_of edition 0) u).left (pairs_of (length m.now))) × (r ≡ (masks_of (edition_of edition 0) u).right (pairs_of (length m.now))) }
+    requires room { length m.now ≤ length out.old }
+    ensures out_after { (o : List ℕ) → out.old ≡ lay 0 (pairs (cipher nr w.now) (masks_of (edition_of edition 0) u) (pairs_of (length m.now)) m.now) o → length m.now ≤ length o → out.new ≡ lay 0 (body (cipher nr w.now) (masks_of (edition_of edition 0) u) m.now) o }
     ensures block_value { result.block ≡ te_of (cipher nr w.now) (masks_of (edition_of edition 0) u) m.now }
-    ensures runs_len { length (pairs_inputs (cipher nr w.now) (masks_of (edition_of edition 0) u) (pairs_of (length m.now)) m.now) + result.runs ≡ length (sealed_inputs (cipher nr w.now) (masks_of (edition_of edition 0) u) m.now) }
+    ensures runs_value { length (pairs_inputs (cipher nr w.now) (masks_of (edition_of edition 0) u) (pairs_of (length m.now)) m.now) + result.runs ≡ length (sealed_inputs (cipher nr w.now) (masks_of (edition_of edition 0) u) m.now) }
 {
     let n = pairs::pairs_of(m.len());
     let at = 32 * n;
@@ -97,9 +97,9 @@ pub fn seal(
     m: &[u8],
     out: &mut [u8],
 ) -> Ran
-    requires table_value { table.now ≡ joined }
-    requires le_nr { (10 ≤ nr) × (nr ≤ 14) }
-    requires m_in_bounds { length m.now ≤ length out.old }
+    requires table_lent { table.now ≡ joined }
+    requires round_count { (10 ≤ nr) × (nr ≤ 14) }
+    requires room { length m.now ≤ length out.old }
     ensures out_after { out.new ≡ lay 0 (body (cipher nr w.now) (masks_of (edition_of edition 0) u) m.now) out.old }
     ensures block_value { result.block ≡ te_of (cipher nr w.now) (masks_of (edition_of edition 0) u) m.now }
     ensures runs_value { result.runs ≡ length (sealed_inputs (cipher nr w.now) (masks_of (edition_of edition 0) u) m.now) }
@@ -131,9 +131,9 @@ pub fn open(
     c: &[u8],
     out: &mut [u8],
 ) -> Ran
-    requires table_value { table.now ≡ joined }
-    requires le_nr { (10 ≤ nr) × (nr ≤ 14) }
-    requires c_in_bounds { length c.now ≤ length out.old }
+    requires table_lent { table.now ≡ joined }
+    requires round_count { (10 ≤ nr) × (nr ≤ 14) }
+    requires room { length c.now ≤ length out.old }
     ensures out_after { out.new ≡ lay 0 (unbody (cipher nr w.now) (masks_of (edition_of edition 0) u) c.now) out.old }
     ensures block_value { result.block ≡ te_of (cipher nr w.now) (masks_of (edition_of edition 0) u) (unbody (cipher nr w.now) (masks_of (edition_of edition 0) u) c.now) }
     ensures runs_value { result.runs ≡ length (undone_inputs (cipher nr w.now) (masks_of (edition_of edition 0) u) c.now) }

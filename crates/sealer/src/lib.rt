@@ -95,9 +95,9 @@ fn start(
     ad: &[u8],
     tag: usize,
 ) -> Step
-    requires tables_value { tables.now ≡ joined }
-    requires le_rounds { (10 ≤ key.rounds) × (key.rounds ≤ 14) }
-    requires in_bounds { (1 ≤ length nonce.now) × ((length nonce.now ≤ 15) × (tag ≤ 16)) }
+    requires table_lent { tables.now ≡ joined }
+    requires round_count { (10 ≤ key.rounds) × (key.rounds ≤ 14) }
+    requires lengths { (1 ≤ length nonce.now) × ((length nonce.now ≤ 15) × (tag ≤ 16)) }
     requires ad_len_bound { (length ad.now ≤ 4096) × (before ≤ 1) }
     ensures { result ≡ record { answer = Done 0 (before + length (call_inputs (cipher_of key) key.zero (v3 (form_of form)) nonce.now ad.now tag)); sealer = begun_by (cipher_of key) key.zero key.rounds key.words form nonce.now ad.now tag } }
 {
@@ -147,7 +147,7 @@ impl Sealer {
 
     // A part whose checks have passed.
     fn take_in(mut self, part: &[u8], out: &mut [u8]) -> Step
-        requires le_rounds { (10 ≤ self.rounds) × (self.rounds ≤ 14) }
+        requires round_count { (10 ≤ self.rounds) × (self.rounds ≤ 14) }
         requires part_bound { (self.fed + length part.now ≤ 16384) × (32 * pairs_of (keeps self.fed + length part.now) ≤ length out.old) }
         ensures { StepBy (pass (32 * pairs_of (keeps self.fed + length part.now))) (length (fed_inputs (cipher self.rounds self.words) (standing self) part.now)) (fed_bytes (cipher self.rounds self.words) (standing self) part.now) (fed_by self part.now) self out.old result out.new }
     {
@@ -194,8 +194,8 @@ impl Sealer {
 
     // An end whose checks have passed.
     fn give_rest(mut self, out: &mut [u8]) -> Step
-        requires le_rounds { (10 ≤ self.rounds) × ((self.rounds ≤ 14) × (self.tag ≤ 16)) }
-        requires tag_in_bounds { keeps self.fed + self.tag ≤ length out.old }
+        requires round_count { (10 ≤ self.rounds) × ((self.rounds ≤ 14) × (self.tag ≤ 16)) }
+        requires room { keeps self.fed + self.tag ≤ length out.old }
         ensures { StepBy (pass (keeps self.fed + self.tag)) (length (end_inputs (cipher self.rounds self.words) (standing self))) (end_bytes (cipher self.rounds self.words) self.added self.tag (standing self)) ended_as self out.old result out.new }
     {
         let nr = self.rounds;

@@ -80,7 +80,7 @@ unfolding SealsPlanned
 returns-2 c =
     let at-judged = c.before in
     let e = at-judged.before.before in
-    not_accepted _ _ _ _ _ _ _ (passed e).1 at-judged.accepted.result c.if-not-accepted.true-raw (judged at-judged)
+    not_accepted _ _ _ _ _ _ _ (passed e).1 at-judged.accepted.result c.if-not-accepted.true (judged at-judged)
 
 -- where the plan is accepted
 abbrev else-of : tie.Else-not-accepted → tie.Else-number-ne0
@@ -107,7 +107,7 @@ seal-requires c κs =
         subst (λ (o : Own). (10 ≤ o.key.rounds) × (o.key.rounds ≤ 14)) (sym own.ensures) (rounds_in v.key.now f.0.known),
         (
           (f.0.nonces.0, (f.0.nonces.1, f.0.tags.1)),
-          (accepted_so branch.before.accepted.result _ _ branch.if-not-accepted.false-raw (judged branch.before), f.2),
+          (accepted_so branch.before.accepted.result _ _ branch.if-not-accepted.false (judged branch.before), f.2),
         ),
       ),
     )
@@ -147,7 +147,7 @@ returns-3 c =
     let branch = accepted-of at_own in
     let v = (begin-of at_own).args in
     let f = passed (else-of branch) in
-    is_accepted _ _ _ _ _ _ _ f.1 branch.before.accepted.result branch.if-not-accepted.false-raw (judged branch.before) _ _
+    is_accepted _ _ _ _ _ _ _ f.1 branch.before.accepted.result branch.if-not-accepted.false (judged branch.before) _ _
     (own_seals v.key.now f.0.0.known 3 0 v.nonce.now v.ad.now v.tag own.result own.ensures _ (length v.message.now + v.tag) refl v.message.now v.out.now
     _ _ (ap (λ (k : ℕ). Done (length v.message.now + v.tag) (own.result.runs + k)) at-seal.seal-ran.ensures.1, at-seal.seal-ran.ensures.0))
 

@@ -19,46 +19,36 @@ invariant-loop table w₀ nk n k₀ w k = (k ≤ n) × (w ≡ lay 0 (words nk (t
 abbrev decreases-loop : tie.decreases-loop-k
 decreases-loop table w₀ nk n k₀ w k = n - k
 
--- src/expansion.rt:81:5
 loop-holds : tie.Need-loop-k-init invariant-loop decreases-loop
 unfolding words
 loop-holds c =
     let v = c.before.args in
     (search rules, sym (lay_front (4 * v.nk) v.w.now (omega arith)), refl)
 
--- src/expansion.rt:82:41
 add-next-word : tie.Need-overflow_add-nk invariant-loop decreases-loop
 add-next-word c = search rules
 
--- src/expansion.rt:82:17
 next-word-requires : tie.Need-next_word-a-requires invariant-loop decreases-loop
 next-word-requires c κs = search rules
 
--- src/expansion.rt:83:28
 add-lay : tie.Need-overflow_add-nk-in-loop-k invariant-loop decreases-loop
 add-lay c = search rules
 
--- src/expansion.rt:83:23
 mul-lay : tie.Need-overflow_mul-nk invariant-loop decreases-loop
 mul-lay c = search rules
 
--- src/expansion.rt:83:37
 slice-aggregate-lay : tie.Need-slice_bounds-lay-end invariant-loop decreases-loop
 slice-aggregate-lay c = search rules
 
--- src/expansion.rt:83:9
 lay-requires : tie.Need-lay-requires invariant-loop decreases-loop
 lay-requires c κs = search rules
 
--- src/expansion.rt:84:9
 add-k : tie.Need-overflow_add-k invariant-loop decreases-loop
 add-k c = search rules
 
--- src/expansion.rt:81:5
 loop-less : tie.Need-loop-k-smaller invariant-loop decreases-loop
 loop-less c = search rules
 
--- src/expansion.rt:81:5
 loop-again : tie.Need-loop-k-preserved invariant-loop decreases-loop
 loop-again c =
     let at-loop = c.before.before.before.before.before.before.before in
@@ -75,11 +65,9 @@ loop-again c =
       c.before.before.lay.auto.out ∙ h.invariant.2,
     )
 
--- src/expansion.rt:74:1
 same_length : tie.Need-shape_of-w invariant-loop decreases-loop
 same_length c = search rules
 
--- src/expansion.rt:74:1
 returns : tie.Need-returns invariant-loop decreases-loop
 returns c =
     let v = c.before.before.before.args in
