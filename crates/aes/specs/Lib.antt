@@ -3,3 +3,4 @@ pub mod Cipher
 pub mod Column
 pub mod Expansion
 pub mod Key
+pub mod Under

@@ -3,7 +3,7 @@ ghost use Rattle.std.specs.Prelude.{◌≡◌, List, ℕ, ◌*◌, ◌≤◌, lt
 ghost use Rattle.tables.specs.Joined.{joined};
 ghost use Rattle.aes.specs.Cipher.{cipher};
 ghost use Rattle.mode.specs.Form.{Form};
-ghost use Rattle.mode.specs.Edition.{v1, v3, edition_of};
+ghost use Rattle.mode.specs.Edition.{V1, V3, edition_of};
 ghost use Rattle.mode.specs.Masks.{doubles};
 ghost use Rattle.mode.specs.Data.{start_q, data_final, data_sum, sum_inputs, parallel_pass, ta as ta_of, ta_inputs};
 
@@ -66,7 +66,7 @@ fn start_q(edition: usize, q: [u8; 16]) -> [u8; 16]
 
 // The final mask for a last block of n bytes whose Q is x: in v3.1, and in v1, where q is γ.
 fn final_of_third(x: [u8; 16], n: usize) -> [u8; 16]
-    ensures { (f : Form) (q : List ℕ) → result ≡ data_final (v3 f) q (ltb n 16) x }
+    ensures { (f : Form) (q : List ℕ) → result ≡ data_final (V3 f) q (ltb n 16) x }
 {
     if n < 16 {
         return block::triple(x);
@@ -75,7 +75,7 @@ fn final_of_third(x: [u8; 16], n: usize) -> [u8; 16]
 }
 
 fn final_of_first(q: [u8; 16], x: [u8; 16], n: usize) -> [u8; 16]
-    ensures { result ≡ data_final v1 q (ltb n 16) x }
+    ensures { result ≡ data_final V1 q (ltb n 16) x }
 {
     if 16 <= n {
         return block::xor(x, block::double(q));

@@ -9,8 +9,8 @@ use native.Mathlib.Omega.{arith}
 use lib.ListN.{length, length-append}
 use Rattle.lists.specs.Zeros.{zeros}
 use Rattle.aes.specs.Expansion.{aes}
-use Rattle.mode.specs.Form.{parallel, serial}
-use Rattle.mode.specs.Edition.{Edition, v1, v3, edition_of}
+use Rattle.mode.specs.Form.{Parallel, Serial}
+use Rattle.mode.specs.Edition.{Edition, V1, V3, edition_of}
 use Rattle.mode.specs.Data.{q_inputs, with_data}
 use Rattle.mode.specs.Sealing.{from_inputs, otr_inputs}
 use Rattle.mode.specs.Opening.{accepted, refused}
@@ -88,22 +88,22 @@ module _ (edition form : ℕ) (p : Prepared) (nonce ad : List ℕ) (t : ℕ) (ou
 
 -- ---- the formulas, by lengths alone
 formula_is : (f : Edition) (m ad : ℕ) → min 1 ad + (2 + (m + 15) / 16 + (ad + 15) / 16) ≡ formula f m ad
-formula_is v1 m zero = omega arith
-formula_is v1 m (suc b) = omega arith
-formula_is (v3 parallel) m zero = omega arith
-formula_is (v3 parallel) m (suc b) = omega arith
-formula_is (v3 serial) m zero = omega arith
-formula_is (v3 serial) m (suc b) = omega arith
+formula_is V1 m zero = omega arith
+formula_is V1 m (suc b) = omega arith
+formula_is (V3 Parallel) m zero = omega arith
+formula_is (V3 Parallel) m (suc b) = omega arith
+formula_is (V3 Serial) m zero = omega arith
+formula_is (V3 Serial) m (suc b) = omega arith
 
 -- whatever is named runs the cipher equally often: the two forms, and the two editions
 pub named_alike : (f g : Edition) (m ad : ℕ) → formula f m ad ≡ formula g m ad
 named_alike f g m ad = sym (formula_is f m ad) ∙ formula_is g m ad
 
-pub forms_alike : (m ad : ℕ) → formula (v3 serial) m ad ≡ formula (v3 parallel) m ad
-forms_alike = named_alike (v3 serial) (v3 parallel)
+pub forms_alike : (m ad : ℕ) → formula (V3 Serial) m ad ≡ formula (V3 Parallel) m ad
+forms_alike = named_alike (V3 Serial) (V3 Parallel)
 
-pub editions_alike : (m ad : ℕ) → formula v1 m ad ≡ formula (v3 parallel) m ad
-editions_alike = named_alike v1 (v3 parallel)
+pub editions_alike : (m ad : ℕ) → formula V1 m ad ≡ formula (V3 Parallel) m ad
+editions_alike = named_alike V1 (V3 Parallel)
 
 -- a prepared key loses the one for the zero block
 pub one_less : (f : Edition) (m ad : ℕ) → formula f m ad ≡ min 1 ad + formula_with m ad

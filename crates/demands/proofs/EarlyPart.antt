@@ -13,7 +13,7 @@ use Rattle.mode.specs.Edition.{Edition, edition_of}
 use Rattle.mode.specs.Masks.{Masks, IsCipher}
 use Rattle.mode.specs.Sealing.{sealed, data_tag, masks, added, otr_from}
 use Rattle.mode.specs.EarlyPart.{early, Longer}
-use Rattle.mode.proofs.Edition.{form_0}
+use Rattle.mode.proofs.Editions.{form_0}
 use Rattle.mode.proofs.Otr.{otr-masks, length-otr}
 use Rattle.mode.proofs.EarlyPart.{renamed, early_part, parallel_masks}
 use Rattle.pairs.proofs.Cipher.{is_cipher, length-ta}

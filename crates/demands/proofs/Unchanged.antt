@@ -14,8 +14,8 @@ use borrow.Author.Tests.{le-leb}
 use Rattle.lists.specs.Lay.{lay}
 use Rattle.lists.specs.Zeros.{zeros}
 use Rattle.aes.specs.Expansion.{aes}
-use Rattle.mode.specs.Form.{parallel, form_of}
-use Rattle.mode.specs.Edition.{v3}
+use Rattle.mode.specs.Form.{Parallel, form_of}
+use Rattle.mode.specs.Edition.{V3}
 use Rattle.mode.specs.Masks.{third}
 use Rattle.mode.specs.Nonce.{format}
 use Rattle.mode.specs.Sealing.{sealed, first_mask, into_tag, data_tag, otr}
@@ -35,7 +35,7 @@ use Rattle.link.proofs.Answers.{parts}
 -- ---- before the edition was named: what a message seals to, from a first mask q; and checks 8 and 1 to 4
 abbrev pub otr_unnamed : (List ℕ → List ℕ) → List ℕ → ℕ → List ℕ → List ℕ → ℕ → List ℕ → List ℕ
 otr_unnamed E q form nonce ad t m =
-    let a = data_tag E q (v3 (form_of form)) ad in
+    let a = data_tag E q (V3 (form_of form)) ad in
     sealed E (third (first_mask (form_of form) (E (format t nonce)) a)) (into_tag (form_of form) a) t m
 
 abbrev pub call_check_unnamed : ℕ → Bool → ℕ → ℕ → ℕ → Check → Check
@@ -99,7 +99,7 @@ module _ (key nonce ad : List ℕ) (t : ℕ) (out : List ℕ) (r : Answer) (afte
       (otr_was (aes key) b ad t) s out r after
 
   -- ---- the parallel form, before the form was named
-  parallel_is : otr (aes key) (v3 parallel) nonce ad t ≡ otr_was (aes key) (format t nonce) ad t
+  parallel_is : otr (aes key) (V3 Parallel) nonce ad t ≡ otr_was (aes key) (format t nonce) ad t
   parallel_is = ap (λ (a : List ℕ). sealed (aes key) (third (aes key (format t nonce))) a t) (ta_as_it_was (aes key) ad)
 
   pub seals_parallel : (m : List ℕ) → Seals 3 0 key nonce ad m t out r after ≡ SealsWas 15 (format t nonce) m

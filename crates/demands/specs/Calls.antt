@@ -1,7 +1,7 @@
 -- The words that the demands are stated in.
 use Rattle.std.specs.Prelude.{◌≡◌, Bool, true, false, ◌||◌, ◌⊎◌, List, [], ◌∷◌, ℕ, zero, suc, ◌+◌, ◌-◌, ◌/◌, ◌≤◌, eqb, leb, length}
-use Rattle.mode.specs.Form.{parallel, serial}
-use Rattle.mode.specs.Edition.{Edition, v1, v3}
+use Rattle.mode.specs.Form.{Parallel, Serial}
+use Rattle.mode.specs.Edition.{Edition, V1, V3}
 use Rattle.link.specs.Checks.{from_to, last_form}
 use Rattle.link.specs.declared.prepared.Prepared.{Prepared}
 
@@ -77,9 +77,9 @@ step_runs (suc b) = 1 + (rounded (suc b) - 1) + 1
 -- a message of m bytes and data of ad. In v3.1, parallel: 2, the message length over 16 rounded up, and the data's; serial: the nonce
 -- block, the data's, the message's blocks and TE. In v1: the nonce block, the message's blocks and TE, and the data's
 abbrev pub formula : Edition → ℕ → ℕ → ℕ
-formula v1 m ad = 1 + rounded m + 1 + step_runs ad
-formula (v3 parallel) m ad = 2 + rounded m + data_runs ad
-formula (v3 serial) m ad = 1 + step_runs ad + rounded m + 1
+formula V1 m ad = 1 + rounded m + 1 + step_runs ad
+formula (V3 Parallel) m ad = 2 + rounded m + data_runs ad
+formula (V3 Serial) m ad = 1 + step_runs ad + rounded m + 1
 
 -- under a prepared key, whatever was named, the one for the zero block is lost (wish 9): nonce block, TE, the message's blocks and the
 -- data's

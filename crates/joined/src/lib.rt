@@ -3,5 +3,7 @@
 
 mod cipher;
 mod column;
+mod under;
 
 pub use cipher::encrypt;
+pub use under::Cipher;

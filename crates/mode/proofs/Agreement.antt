@@ -13,8 +13,8 @@ use Rattle.lists.specs.Table.{table, table_from}
 use Rattle.lists.specs.Xor.{xor}
 use Rattle.lists.specs.Zeros.{zeros}
 use Rattle.block.specs.Block.{pad, shift, double}
-use Rattle.mode.specs.Form.{parallel, serial}
-use Rattle.mode.specs.Edition.{Edition, v1, v3, edition_of}
+use Rattle.mode.specs.Form.{Parallel, Serial}
+use Rattle.mode.specs.Edition.{Edition, V1, V3, edition_of}
 use Rattle.mode.specs.Masks.{doubles}
 use Rattle.mode.specs.Message.{blocks, pairs_of, even, short, sum, pairs, pairs_inputs, body, body_inputs, checksum, te}
 use Rattle.mode.specs.Data.{data_sum, sum_inputs, chain, chain_inputs, ta, ta_inputs}
@@ -122,6 +122,6 @@ lent_rows = refl
 pub cut : Edition → Bool
 cut f = same (otr stand_in f (nonce_of 12) [] 4 (message 20)) (take 24 (otr stand_in f (nonce_of 12) [] 16 (message 20)))
 
-pub binds_the_tag_length : map cut (v1 ∷ v3 parallel ∷ v3 serial ∷ []) ≡ true ∷ false ∷ false ∷ []
+pub binds_the_tag_length : map cut (V1 ∷ V3 Parallel ∷ V3 Serial ∷ []) ≡ true ∷ false ∷ false ∷ []
 unfolding cut same stand_in table_from xor zeros pad shift double doubles blocks pairs_of even short sum pairs body checksum te ta zip_with format tag sealed
 binds_the_tag_length = refl

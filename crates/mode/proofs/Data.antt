@@ -13,8 +13,8 @@ use Rattle.lists.proofs.Zeros.{length-zeros}
 use Rattle.block.specs.Block.{pad, double, triple, triple_twice}
 use Rattle.block.proofs.Blocks.{length-pad}
 use Rattle.block.proofs.Doubling.{length-double, length-triple}
-use Rattle.mode.specs.Form.{parallel, serial}
-use Rattle.mode.specs.Edition.{Edition, v1, v3}
+use Rattle.mode.specs.Form.{Parallel, Serial}
+use Rattle.mode.specs.Edition.{Edition, V1, V3}
 use Rattle.mode.specs.Masks.{IsCipher, doubles}
 use Rattle.mode.specs.Message.{blocks, block}
 use Rattle.mode.specs.Data.{DataPass, start_q, data_final, data_sum, parallel_pass, chain_final, chain, data_pass, data_end, ta}
@@ -60,14 +60,14 @@ module _ (E : List ℕ → List ℕ) (e : IsCipher E) where
         (xor_sixteen (block a (16 * n)) (chain E n a) (length-block a (16 * n) (omega arith)) (length-chain n a (omega arith)))
 
     length-start_q : (f : Edition) → length (start_q f q) ≡ 16
-    length-start_q v1 = length-double (double q) (length-double q hq)
-    length-start_q (v3 f) = hq
+    length-start_q V1 = length-double (double q) (length-double q hq)
+    length-start_q (V3 f) = hq
 
     length-data_final : (f : Edition) (s : Bool) (x : List ℕ) → length x ≡ 16 → length (data_final f q s x) ≡ 16
-    length-data_final v1 true x h = xor_sixteen x q h hq
-    length-data_final v1 false x h = xor_sixteen x (double q) h (length-double q hq)
-    length-data_final (v3 f) true x h = length-triple x h
-    length-data_final (v3 f) false x h = length-triple (triple x) (length-triple x h)
+    length-data_final V1 true x h = xor_sixteen x q h hq
+    length-data_final V1 false x h = xor_sixteen x (double q) h (length-double q hq)
+    length-data_final (V3 f) true x h = length-triple x h
+    length-data_final (V3 f) false x h = length-triple (triple x) (length-triple x h)
 
     length-chain_final : (s : Bool) → length (chain_final s q) ≡ 16
     length-chain_final true = length-double q hq
@@ -81,9 +81,9 @@ module _ (E : List ℕ → List ℕ) (e : IsCipher E) where
         record { xi = length-data_sum p hp; mask = λ n s. length-data_final q hq f s (doubles n p) (length-doubles n p hp) }
 
     are_blocks : (f : Edition) → AreBlocks (data_pass E q f)
-    are_blocks v1 = parallel_blocks v1
-    are_blocks (v3 parallel) = parallel_blocks (v3 parallel)
-    are_blocks (v3 serial) = record { xi = length-chain q hq; mask = λ n s. length-chain_final q hq s }
+    are_blocks V1 = parallel_blocks V1
+    are_blocks (V3 Parallel) = parallel_blocks (V3 Parallel)
+    are_blocks (V3 Serial) = record { xi = length-chain q hq; mask = λ n s. length-chain_final q hq s }
 
   module _ (d : DataPass) where
     -- empty data, and data that is not
@@ -152,11 +152,11 @@ unfolding data_sum data_sum_was
 sum_as_it_was E zero a = refl
 sum_as_it_was E (suc n) a = ap (λ (s : List ℕ). xor s (E (xor (doubles n (E (zeros 16))) (block a (16 * n))))) (sum_as_it_was E n a)
 
-final_as_it_was : (E : List ℕ → List ℕ) (s : Bool) (x : List ℕ) → data_final (v3 parallel) (E (zeros 16)) s x ≡ final_was s x
+final_as_it_was : (E : List ℕ → List ℕ) (s : Bool) (x : List ℕ) → data_final (V3 Parallel) (E (zeros 16)) s x ≡ final_was s x
 final_as_it_was E true x = refl
 final_as_it_was E false x = refl
 
-pub ta_as_it_was : (E : List ℕ → List ℕ) (a : List ℕ) → data_tag E (E (zeros 16)) (v3 parallel) a ≡ ta_was E a
+pub ta_as_it_was : (E : List ℕ → List ℕ) (a : List ℕ) → data_tag E (E (zeros 16)) (V3 Parallel) a ≡ ta_was E a
 unfolding ta ta_was
 ta_as_it_was E [] = refl
 ta_as_it_was E (b ∷ bs) =

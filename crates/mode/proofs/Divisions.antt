@@ -10,7 +10,7 @@ use Rattle.lists.specs.Xor.{xor}
 use Rattle.lists.specs.Zeros.{zeros}
 use Rattle.block.specs.Block.{pad, shift, double}
 use Rattle.mode.specs.Form.{form_of}
-use Rattle.mode.specs.Edition.{v3}
+use Rattle.mode.specs.Edition.{V3}
 use Rattle.mode.specs.Masks.{doubles}
 use Rattle.mode.specs.Message.{blocks, pairs_of, even, short, sum, pairs, pairs_inputs, body, body_inputs, checksum}
 use Rattle.mode.specs.Data.{data_sum, sum_inputs, chain, chain_inputs, ta, ta_inputs, q_inputs, with_data}
@@ -33,8 +33,8 @@ computed (f, a, k, t, n, parts, runs, long, x) =
     let nonce = nonce_of k in
     let ad = data_of a in
     let q = stand_in (zeros 16) in (
-      length (q_inputs (with_data ad) ++ call_inputs stand_in q (v3 (form_of f)) nonce ad t),
-      calls (added stand_in q (v3 (form_of f)) nonce ad t) t (begun (masks stand_in q (v3 (form_of f)) nonce ad t)) 0 parts,
+      length (q_inputs (with_data ad) ++ call_inputs stand_in q (V3 (form_of f)) nonce ad t),
+      calls (added stand_in q (V3 (form_of f)) nonce ad t) t (begun (masks stand_in q (V3 (form_of f)) nonce ad t)) 0 parts,
     )
 
 pub given : Row → ℕ × List (ℕ × List ℕ)

@@ -8,7 +8,7 @@ use Prim.Native.Nat.{ℕ, ◌*◌, ◌≤◌}
 use native.Mathlib.Omega.{arith}
 use lib.ListN.{length, drop, take-append-drop}
 use lib.Seq.{length-take-le, take_at}
-use Rattle.mode.specs.Form.{Form, parallel}
+use Rattle.mode.specs.Form.{Form, Parallel}
 use Rattle.mode.specs.Edition.{Edition, form_in}
 use Rattle.mode.specs.Masks.{Masks, IsCipher, AreMasks, masks_of}
 use Rattle.mode.specs.Message.{pairs_of, pairs, body}
@@ -87,7 +87,7 @@ module _ (E : List ℕ → List ℕ) (e : IsCipher E) (k : Masks) (s : AreMasks 
 
 -- ---- AES-OTR in the parallel form, which is v1's too: U goes by the nonce block alone, whatever the associated data, and whatever the
 -- first mask of their pass
-pub parallel_masks : (E : List ℕ → List ℕ) (q q' : List ℕ) (f : Edition) → form_in f ≡ parallel → (nonce ad ad' : List ℕ) (t : ℕ)
+pub parallel_masks : (E : List ℕ → List ℕ) (q q' : List ℕ) (f : Edition) → form_in f ≡ Parallel → (nonce ad ad' : List ℕ) (t : ℕ)
     → masks E q f nonce ad t ≡ masks E q' f nonce ad' t
 parallel_masks E q q' f is nonce ad ad' t =
     let with : List ℕ → Form → Masks = λ a g. masks_of f (first_mask g (E (nonce_block f t nonce)) a) in

@@ -11,8 +11,8 @@ use Rattle.lists.specs.Xor.{xor}
 use Rattle.lists.specs.Zeros.{zeros}
 use Rattle.lists.proofs.Zeros.{length-zeros}
 use Rattle.block.specs.Block.{pad}
-use Rattle.mode.specs.Form.{parallel, serial}
-use Rattle.mode.specs.Edition.{Edition, v1, v3, form_in}
+use Rattle.mode.specs.Form.{Parallel, Serial}
+use Rattle.mode.specs.Edition.{Edition, V1, V3, form_in}
 use Rattle.mode.specs.Masks.{Masks, IsCipher, AreMasks, doubles, masks_of}
 use Rattle.mode.specs.Message.{blocks, pairs_of, even, block, rest, short, sum, base, final, one_inputs, half, pair, pair_inputs, z, last, ending, ending_inputs, end_sum, pairs, pairs_inputs, l, r, body, body_inputs, checksum, te, te_input}
 use Rattle.mode.specs.Data.{start_q, data_sum, sum_inputs, chain, chain_inputs, data_pass, data_last, ta, ta_inputs, q_inputs, with_data}
@@ -120,14 +120,14 @@ module _ (E F : List ℕ → List ℕ) where
       ∙ ap (λ (x : List ℕ). F (xor (block a (16 * n)) x)) (chain_same n a (front (chain_inputs E n a) (here ∷ []) h))
 
   xi_same : (q : List ℕ) (f : Edition) (n : ℕ) (a : List ℕ) → Agree E F ((data_pass E q f).inputs n a) → (data_pass E q f).xi n a ≡ (data_pass F q f).xi n a
-  xi_same q v1 n a h = data_sum_same (start_q v1 q) n a h
-  xi_same q (v3 parallel) n a h = data_sum_same q n a h
-  xi_same q (v3 serial) n a h = chain_same n a h
+  xi_same q V1 n a h = data_sum_same (start_q V1 q) n a h
+  xi_same q (V3 Parallel) n a h = data_sum_same q n a h
+  xi_same q (V3 Serial) n a h = chain_same n a h
 
   mask_same : (q : List ℕ) (f : Edition) (n : ℕ) (s : Bool) → (data_pass E q f).mask n s ≡ (data_pass F q f).mask n s
-  mask_same q v1 n s = refl
-  mask_same q (v3 parallel) n s = refl
-  mask_same q (v3 serial) n s = refl
+  mask_same q V1 n s = refl
+  mask_same q (V3 Parallel) n s = refl
+  mask_same q (V3 Serial) n s = refl
 
   ta_same : (q : List ℕ) (f : Edition) (a : List ℕ) → Agree E F (ta_inputs E (data_pass E q f) a) → data_tag E q f a ≡ data_tag F q f a
   unfolding ta ta_inputs

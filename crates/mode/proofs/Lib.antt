@@ -12,7 +12,7 @@ pub mod Front
 pub mod Parts
 pub mod Opens
 pub mod Format
-pub mod Edition
+pub mod Editions
 pub mod Data
 pub mod Otr
 pub mod TagLength

@@ -11,8 +11,8 @@ use Rattle.lists.proofs.Zeros.{length-zeros, xor-zeros}
 use Rattle.block.specs.Block.{double, triple}
 use Rattle.block.proofs.Blocks.{length-pad}
 use Rattle.block.proofs.Doubling.{length-double, length-triple, length-seven}
-use Rattle.mode.specs.Form.{Form, parallel, serial}
-use Rattle.mode.specs.Edition.{Edition, v1, v3, form_in}
+use Rattle.mode.specs.Form.{Form, Parallel, Serial}
+use Rattle.mode.specs.Edition.{Edition, V1, V3, form_in}
 use Rattle.mode.specs.Masks.{Masks, IsCipher, AreMasks, doubles, doubled, third, first, masks_of}
 use Rattle.mode.specs.Message.{body, te}
 use Rattle.mode.specs.Data.{ta}
@@ -50,33 +50,33 @@ first_masks d h =
     }
 
 pub edition_masks : (f : Edition) (u : List ℕ) → length u ≡ 16 → AreMasks (masks_of f u)
-edition_masks v1 u h = first_masks u h
-edition_masks (v3 f) u h = third_masks u h
+edition_masks V1 u h = first_masks u h
+edition_masks (V3 f) u h = third_masks u h
 
 -- ---- what an edition makes of the nonce, and a form seals with
 length-nonce_block : (f : Edition) (t : ℕ) (n : List ℕ) → length n ≤ 15 → length (nonce_block f t n) ≡ 16
-length-nonce_block v1 t n h = length-pad n (omega arith)
-length-nonce_block (v3 f) t n h = length-format t n h
+length-nonce_block V1 t n h = length-pad n (omega arith)
+length-nonce_block (V3 f) t n h = length-format t n h
 
 length-first_mask : (f : Form) (v a : List ℕ) → length v ≡ 16 → length a ≡ 16 → length (first_mask f v a) ≡ 16
-length-first_mask parallel v a hv ha = hv
-length-first_mask serial v a hv ha = length-double (xor v a) (xor_sixteen v a hv ha)
+length-first_mask Parallel v a hv ha = hv
+length-first_mask Serial v a hv ha = length-double (xor v a) (xor_sixteen v a hv ha)
 
 length-into_tag : (f : Form) (a : List ℕ) → length a ≡ 16 → length (into_tag f a) ≡ 16
-length-into_tag parallel a h = h
-length-into_tag serial a h = length-zeros 16
+length-into_tag Parallel a h = h
+length-into_tag Serial a h = length-zeros 16
 
 -- with no data TA is zero: U is then E(nonce block), and in the serial form that doubled all the same (000, Fig. 3, EF-S, line 2)
 abbrev pub doublings : Form → ℕ
-doublings parallel = 0
-doublings serial = 1
+doublings Parallel = 0
+doublings Serial = 1
 
 pub without_data : (E : List ℕ → List ℕ) (q : List ℕ) (f : Edition) (v : List ℕ) → length v ≡ 16
     → first_mask (form_in f) v (data_tag E q f []) ≡ doubles (doublings (form_in f)) v
 unfolding ta doubles
-without_data E q v1 v h = refl
-without_data E q (v3 parallel) v h = refl
-without_data E q (v3 serial) v h = ap double (xor-zeros v 16 (omega arith))
+without_data E q V1 v h = refl
+without_data E q (V3 Parallel) v h = refl
+without_data E q (V3 Serial) v h = ap double (xor-zeros v 16 (omega arith))
 
 module _ (E : List ℕ → List ℕ) (e : IsCipher E) (q : List ℕ) (f : Edition) (nonce ad : List ℕ) (t : ℕ) (h : length (data_tag E q f ad) ≡ 16) where
   pub otr-masks : length nonce ≤ 15 → AreMasks (masks E q f nonce ad t)
@@ -88,12 +88,12 @@ module _ (E : List ℕ → List ℕ) (e : IsCipher E) (q : List ℕ) (f : Editio
   length-added = length-into_tag (form_in f) (data_tag E q f ad) h
 
 -- the serial tag is the first t bytes of TE alone (000, Fig. 3, OTR-E, line 4)
-pub serial_tag : (E : List ℕ → List ℕ) → IsCipher E → (q nonce ad : List ℕ) (t : ℕ) → length (data_tag E q (v3 serial) ad) ≡ 16 → length nonce ≤ 15 → (m : List ℕ)
-    → tag E (masks E q (v3 serial) nonce ad t) (added E q (v3 serial) nonce ad t) t m ≡ take t (te E (masks E q (v3 serial) nonce ad t) m)
+pub serial_tag : (E : List ℕ → List ℕ) → IsCipher E → (q nonce ad : List ℕ) (t : ℕ) → length (data_tag E q (V3 Serial) ad) ≡ 16 → length nonce ≤ 15 → (m : List ℕ)
+    → tag E (masks E q (V3 Serial) nonce ad t) (added E q (V3 Serial) nonce ad t) t m ≡ take t (te E (masks E q (V3 Serial) nonce ad t) m)
 unfolding tag
 serial_tag E e q nonce ad t h hn m =
-    let k = masks E q (v3 serial) nonce ad t in
-    ap (take t) (xor-zeros (te E k m) 16 (omega (arith, Tag.length-te E e k (otr-masks E e q (v3 serial) nonce ad t h hn) m)))
+    let k = masks E q (V3 Serial) nonce ad t in
+    ap (take t) (xor-zeros (te E k m) 16 (omega (arith, Tag.length-te E e k (otr-masks E e q (V3 Serial) nonce ad t h hn) m)))
 
 -- ---- the theorems, for whatever edition and form f are named
 module _ (E : List ℕ → List ℕ) (e : IsCipher E) (q : List ℕ) (f : Edition) (nonce ad : List ℕ) (t : ℕ) (h : length (data_tag E q f ad) ≡ 16)

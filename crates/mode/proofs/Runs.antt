@@ -9,8 +9,8 @@ use native.Mathlib.Omega.{arith}
 use lib.ListN.{length, take, length-append, length-drop}
 use lib.Seq.{length-take-le}
 use Rattle.lists.specs.Xor.{xor}
-use Rattle.mode.specs.Form.{parallel, serial}
-use Rattle.mode.specs.Edition.{Edition, v1, v3}
+use Rattle.mode.specs.Form.{Parallel, Serial}
+use Rattle.mode.specs.Edition.{Edition, V1, V3}
 use Rattle.mode.specs.Masks.{Masks, doubles}
 use Rattle.mode.specs.Message.{blocks, pairs_of, even, block, rest, one_inputs, pair_inputs, ending_inputs, pairs_inputs, l, r, body_inputs, te_input}
 use Rattle.mode.specs.Data.{DataPass, start_q, sum_inputs, chain, chain_inputs, data_pass, ta_inputs, q_inputs, with_data}
@@ -93,9 +93,9 @@ unfolding chain_inputs
 length-chain_inputs E n a = grown (λ i. chain_inputs E i a) (λ i. xor (block a (16 * i)) (chain E i a)) refl (λ i. refl) n
 
 length-inputs : (E : List ℕ → List ℕ) (q : List ℕ) (f : Edition) (n : ℕ) (a : List ℕ) → length ((data_pass E q f).inputs n a) ≡ n
-length-inputs E q v1 n a = length-sum_inputs (start_q v1 q) n a
-length-inputs E q (v3 parallel) n a = length-sum_inputs q n a
-length-inputs E q (v3 serial) n a = length-chain_inputs E n a
+length-inputs E q V1 n a = length-sum_inputs (start_q V1 q) n a
+length-inputs E q (V3 Parallel) n a = length-sum_inputs q n a
+length-inputs E q (V3 Serial) n a = length-chain_inputs E n a
 
 -- TA: the blocks before the last, and the last; none without data
 module _ (E : List ℕ → List ℕ) (d : DataPass) where

@@ -25,8 +25,8 @@ use Rattle.lists.specs.Xor.{xor}
 use Rattle.lists.specs.Zeros.{zeros}
 use Rattle.block.specs.Block.{pad, shift, double}
 use Rattle.block.proofs.Blocks.{pad_whole}
-use Rattle.mode.specs.Form.{parallel, serial}
-use Rattle.mode.specs.Edition.{Edition, v1, v3}
+use Rattle.mode.specs.Form.{Parallel, Serial}
+use Rattle.mode.specs.Edition.{Edition, V1, V3}
 use Rattle.mode.specs.Masks.{Masks, IsCipher, AreMasks, doubles}
 use Rattle.mode.specs.Message.{blocks, pairs_of, even, short, block, sum, half, ending, pairs, body, checksum, te}
 use Rattle.mode.specs.Data.{data_sum, chain, ta}
@@ -135,17 +135,17 @@ longer_one f m =
     pairs stand_in (swapped (masks stand_in (stand_in (zeros 16)) f (nonce_of 12) [] 16)) 1 (otr stand_in f (nonce_of 12) [] 16 m) ++ (0 ∷ [])
 
 -- 32 bytes, and the same with one more: the messages agree, and the outputs differ
-pub agreeing_differ : map (λ f. seen (early 1) f (message 32) (message 33)) (v1 ∷ v3 parallel ∷ []) ≡ (true, false) ∷ (true, false) ∷ []
+pub agreeing_differ : map (λ f. seen (early 1) f (message 32) (message 33)) (V1 ∷ V3 Parallel ∷ []) ≡ (true, false) ∷ (true, false) ∷ []
 unfolding seen same stand_in table_from xor zeros pad shift double doubles blocks pairs_of even short sum pairs body checksum te ta zip_with format tag sealed
 agreeing_differ = refl
 
 -- 32 bytes, and 33 others: the messages differ, and the outputs agree
-pub differing_agree : map (λ f. seen (early 1) f (message 32) (longer_one f (message 32))) (v1 ∷ v3 parallel ∷ []) ≡ (false, true) ∷ (false, true) ∷ []
+pub differing_agree : map (λ f. seen (early 1) f (message 32) (longer_one f (message 32))) (V1 ∷ V3 Parallel ∷ []) ≡ (false, true) ∷ (false, true) ∷ []
 unfolding seen longer_one same stand_in table_from xor zeros pad shift double doubles blocks pairs_of even short sum pairs body checksum te ta zip_with format tag sealed
 differing_agree = refl
 
 -- 65 bytes, and the same 48 with 17 others behind them: the outputs differ there
-pub half_a_pair : map (λ f. seen (take 48) f (message 65) (take 48 (message 65) ++ message 17)) (v1 ∷ v3 parallel ∷ []) ≡ (true, false) ∷ (true, false) ∷ []
+pub half_a_pair : map (λ f. seen (take 48) f (message 65) (take 48 (message 65) ++ message 17)) (V1 ∷ V3 Parallel ∷ []) ≡ (true, false) ∷ (true, false) ∷ []
 unfolding seen same stand_in table_from xor zeros pad shift double doubles blocks pairs_of even short sum pairs body checksum te ta zip_with format tag sealed
 half_a_pair = refl
 
@@ -153,6 +153,6 @@ half_a_pair = refl
 pub alike : Edition → Bool
 alike f = agree (early 1) (otr stand_in f (nonce_of 12) (data_of 5) 16 (message 33)) (otr stand_in f (nonce_of 12) (data_of 6) 16 (message 33))
 
-pub data_tell : map alike (v1 ∷ v3 parallel ∷ v3 serial ∷ []) ≡ true ∷ true ∷ false ∷ []
+pub data_tell : map alike (V1 ∷ V3 Parallel ∷ V3 Serial ∷ []) ≡ true ∷ true ∷ false ∷ []
 unfolding alike same stand_in table_from xor zeros pad shift double doubles blocks pairs_of even short sum pairs body checksum te data_sum chain ta zip_with format tag sealed
 data_tell = refl

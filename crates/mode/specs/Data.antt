@@ -5,8 +5,8 @@ use Rattle.std.specs.Prelude.{Bool, true, false, List, [], ◌∷◌, ◌++◌, 
 use Rattle.lists.specs.Xor.{xor}
 use Rattle.lists.specs.Zeros.{zeros}
 use Rattle.block.specs.Block.{pad, double, triple, triple_twice}
-use Rattle.mode.specs.Form.{parallel, serial}
-use Rattle.mode.specs.Edition.{Edition, v1, v3}
+use Rattle.mode.specs.Form.{Parallel, Serial}
+use Rattle.mode.specs.Edition.{Edition, V1, V3}
 use Rattle.mode.specs.Masks.{doubles}
 use Rattle.mode.specs.Message.{blocks, block}
 
@@ -20,15 +20,15 @@ pub record DataPass : Type 0 where
 -- ---- parallel (AF)
 -- line 2: the Q of the first block, which in v1 is 4γ, where q is γ
 abbrev pub start_q : Edition → List ℕ → List ℕ
-start_q v1 q = double (double q)
-start_q (v3 f) q = q
+start_q V1 q = double (double q)
+start_q (V3 f) q = q
 
 -- lines 8 and 9, for a last block whose Q is x: in v1 Q ⊕ γ where it is short, Q ⊕ 2γ where it is full; in v3.1 3Q and 3²Q
 abbrev pub data_final : Edition → List ℕ → Bool → List ℕ → List ℕ
-data_final v1 q true x = xor x q
-data_final v1 q false x = xor x (double q)
-data_final (v3 f) q true x = triple x
-data_final (v3 f) q false x = triple_twice x
+data_final V1 q true x = xor x q
+data_final V1 q false x = xor x (double q)
+data_final (V3 f) q true x = triple x
+data_final (V3 f) q false x = triple_twice x
 
 -- lines 1, 4, 5 and 6: the first n blocks, each with its own Q
 unfoldable pub data_sum : (List ℕ → List ℕ) → List ℕ → ℕ → List ℕ → List ℕ
@@ -67,9 +67,9 @@ serial_pass E q = record { xi = chain E; inputs = chain_inputs E; mask = λ n s.
 
 -- ---- whichever was named
 abbrev pub data_pass : (List ℕ → List ℕ) → List ℕ → Edition → DataPass
-data_pass E q v1 = parallel_pass E q v1
-data_pass E q (v3 parallel) = parallel_pass E q (v3 parallel)
-data_pass E q (v3 serial) = serial_pass E q
+data_pass E q V1 = parallel_pass E q V1
+data_pass E q (V3 Parallel) = parallel_pass E q (V3 Parallel)
+data_pass E q (V3 Serial) = serial_pass E q
 
 module _ (E : List ℕ → List ℕ) (d : DataPass) where
   -- AF, lines 7 to 10; AF-S, lines 6 to 9: n blocks, and a last block x; what is handed to the cipher, and what comes out

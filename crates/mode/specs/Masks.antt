@@ -2,7 +2,7 @@
 use Rattle.std.specs.Prelude.{◌≡◌, List, ℕ, zero, suc, length}
 use Rattle.lists.specs.Xor.{xor}
 use Rattle.block.specs.Block.{double, triple, triple_twice, seven}
-use Rattle.mode.specs.Edition.{Edition, v1, v3}
+use Rattle.mode.specs.Edition.{Edition, V1, V3}
 
 -- L and L' of pair i, counted from 0, and the final mask that a mask base B gives, for a short last block and for a full one
 pub record Masks : Type 0 where
@@ -52,5 +52,5 @@ first d =
 
 -- an edition's, from its U or δ
 abbrev pub masks_of : Edition → List ℕ → Masks
-masks_of v1 d = first d
-masks_of (v3 f) u = third u
+masks_of V1 d = first d
+masks_of (V3 f) u = third u

@@ -5,7 +5,7 @@ use mathlib.Core.List.{List, ◌∷◌, ◌++◌, zip_with}
 use Rattle.std.specs.Prelude.{ℕ, ◌+◌, ◌-◌, ◌*◌, ◌%◌, length}
 use Rattle.lists.specs.Zeros.{zeros}
 use Rattle.block.specs.Block.{pad}
-use Rattle.mode.specs.Edition.{Edition, v1, v3}
+use Rattle.mode.specs.Edition.{Edition, V1, V3}
 
 -- byte 0 carries the tag byte, 2 · (8t mod 128)
 abbrev pub tag_byte : ℕ → ℕ
@@ -24,5 +24,5 @@ format t n = zip_with ◌+◌ (tag_part t) (nonce_part n)
 
 -- v1 pads the nonce like a short block, and the tag length is not in it (source document 003, Fig. 1, EF, line 2; document 02, wish 7)
 abbrev pub nonce_block : Edition → ℕ → List ℕ → List ℕ
-nonce_block v1 t n = pad n
-nonce_block (v3 f) t n = format t n
+nonce_block V1 t n = pad n
+nonce_block (V3 f) t n = format t n

@@ -4,7 +4,7 @@ use Rattle.std.specs.Prelude.{List, [], ◌∷◌, ◌++◌, ℕ, take}
 use Rattle.lists.specs.Xor.{xor}
 use Rattle.lists.specs.Zeros.{zeros}
 use Rattle.block.specs.Block.{double}
-use Rattle.mode.specs.Form.{Form, parallel, serial}
+use Rattle.mode.specs.Form.{Form, Parallel, Serial}
 use Rattle.mode.specs.Edition.{Edition, form_in}
 use Rattle.mode.specs.Masks.{Masks, masks_of}
 use Rattle.mode.specs.Message.{body, te, body_inputs, te_input}
@@ -26,13 +26,13 @@ sealed_inputs E k m = body_inputs E k m ++ (te_input E k m ∷ [])
 -- ---- what a form seals with, from v = E(nonce block) and a = TA
 -- U, which v1 calls δ (000 and 003, Fig. 1, EF, line 2; 000, Fig. 3, EF-S, line 2)
 abbrev pub first_mask : Form → List ℕ → List ℕ → List ℕ
-first_mask parallel v a = v
-first_mask serial v a = double (xor v a)
+first_mask Parallel v a = v
+first_mask Serial v a = double (xor v a)
 
 -- what is XORed into the tag (OTR-E, line 4): TA, or nothing, as the serial tag is of TE alone
 abbrev pub into_tag : Form → List ℕ → List ℕ
-into_tag parallel a = a
-into_tag serial a = zeros 16
+into_tag Parallel a = a
+into_tag Serial a = zeros 16
 
 -- ---- AES-OTR as a call names it, f, over any cipher E and any first mask of the data pass, q
 -- TA of the associated data

@@ -9,7 +9,7 @@ use Rattle.aes.specs.Cipher.{cipher}
 use Rattle.aes.specs.Key.{expanded}
 use Rattle.block.specs.Block.{triple}
 use Rattle.mode.specs.Form.{form_of}
-use Rattle.mode.specs.Edition.{v3}
+use Rattle.mode.specs.Edition.{V3}
 use Rattle.mode.specs.Data.{first_q, q_inputs, with_data}
 use Rattle.mode.specs.Nonce.{format}
 use Rattle.mode.specs.Sealing.{first_mask, into_tag, call_inputs}
@@ -32,7 +32,7 @@ use Rattle.sealer.specs.Promises.{keyed, begin_by, beginning}
 abbrev pub started : Prepared → ℕ → ℕ → List ℕ → List ℕ → ℕ → Step
 started p j form nonce ad t =
     record {
-      answer = Done 0 (j + length (call_inputs (cipher_of p) p.zero (v3 (form_of form)) nonce ad t));
+      answer = Done 0 (j + length (call_inputs (cipher_of p) p.zero (V3 (form_of form)) nonce ad t));
       sealer = begun_by (cipher_of p) p.zero p.rounds p.words form nonce ad t;
     }
 
@@ -68,7 +68,7 @@ module _ (form : ℕ) (key nonce ad : List ℕ) (t : ℕ) (k : Bool) (same : k �
   begin_passed z o own =
       ap (λ (x : Own). started x.key x.runs form nonce ad t) own
       ∙ ap (λ (F : List ℕ → List ℕ). started (record_of key (first_q F (with_data ad))) (length (q_inputs (with_data ad))) form nonce ad t) (sym (cipher_is key (begin_fits z).known))
-      ∙ ap₂ (λ (i : ℕ) (a : List ℕ). record { answer = Done 0 i; sealer = with_tag a }) (own_call_runs E (v3 (form_of form)) nonce t ad) (own_tag E (v3 (form_of form)) nonce t ad)
+      ∙ ap₂ (λ (i : ℕ) (a : List ℕ). record { answer = Done 0 i; sealer = with_tag a }) (own_call_runs E (V3 (form_of form)) nonce t ad) (own_tag E (V3 (form_of form)) nonce t ad)
       ∙ sym (ap (λ (c : Check). begin_by cipher c form key nonce ad t) (begin_went_on z).1)
     where
       E : List ℕ → List ℕ

@@ -6,7 +6,7 @@ use Rattle.lists.specs.Lay.{lay}
 use Rattle.lists.specs.Zeros.{zeros}
 use Rattle.aes.specs.Key.{expanded}
 use Rattle.mode.specs.Form.{form_of}
-use Rattle.mode.specs.Edition.{v3}
+use Rattle.mode.specs.Edition.{V3}
 use Rattle.mode.specs.Data.{q_inputs, with_data}
 use Rattle.mode.specs.Sealing.{call_inputs}
 use Rattle.mode.specs.Feeding.{fed_bytes, fed_inputs, end_bytes, end_inputs}
@@ -35,7 +35,7 @@ module _ (C : ℕ → List ℕ → List ℕ → List ℕ) where
   abbrev pub begin_runs : ℕ → List ℕ → List ℕ → List ℕ → ℕ → ℕ
   begin_runs form key nonce ad t =
       let E = keyed key in
-      length (q_inputs (with_data ad) ++ call_inputs E (E (zeros 16)) (v3 (form_of form)) nonce ad t)
+      length (q_inputs (with_data ad) ++ call_inputs E (E (zeros 16)) (V3 (form_of form)) nonce ad t)
 
   abbrev pub begin_by : Check → ℕ → List ℕ → List ℕ → List ℕ → ℕ → Step
   begin_by (pass n) form key nonce ad t =

@@ -3,7 +3,7 @@ use Rattle.std.specs.Prelude.{Bool, ◌&&◌, List, ℕ, ◌+◌, ◌*◌, leb, 
 use Rattle.lists.specs.Zeros.{zeros}
 use Rattle.block.specs.Block.{triple}
 use Rattle.mode.specs.Form.{form_of}
-use Rattle.mode.specs.Edition.{v3}
+use Rattle.mode.specs.Edition.{V3}
 use Rattle.mode.specs.Message.{pairs_of}
 use Rattle.mode.specs.Sealing.{u, added}
 use Rattle.mode.specs.Feeding.{Between, keeps}
@@ -30,12 +30,12 @@ begun_by E q nr w form nonce ad t =
       words = w;
       state =
           record {
-            left = u E q (v3 (form_of form)) nonce ad t;
-            right = triple (u E q (v3 (form_of form)) nonce ad t);
+            left = u E q (V3 (form_of form)) nonce ad t;
+            right = triple (u E q (V3 (form_of form)) nonce ad t);
             sum = zeros 16;
             kept = zeros 32;
           };
-      added = added E q (v3 (form_of form)) nonce ad t;
+      added = added E q (V3 (form_of form)) nonce ad t;
       tag = t;
       fed = 0;
     }

@@ -7,7 +7,7 @@ ghost use Rattle.std.specs.Prelude.{◌≡◌, ◌+◌, ◌*◌, ◌≤◌, leng
 ghost use Rattle.tables.specs.Joined.{joined};
 ghost use Rattle.aes.specs.Cipher.{cipher};
 ghost use Rattle.mode.specs.Form.{form_of};
-ghost use Rattle.mode.specs.Edition.{v3};
+ghost use Rattle.mode.specs.Edition.{V3};
 ghost use Rattle.mode.specs.Sealing.{call_inputs};
 ghost use Rattle.mode.specs.Message.{pairs_of};
 ghost use Rattle.mode.specs.Feeding.{keeps, fed_bytes, fed_inputs, end_bytes, end_inputs};
@@ -99,7 +99,7 @@ fn start(
     requires round_count { (10 ≤ key.rounds) × (key.rounds ≤ 14) }
     requires lengths { (1 ≤ length nonce.now) × ((length nonce.now ≤ 15) × (tag ≤ 16)) }
     requires ad_len_bound { (length ad.now ≤ 4096) × (before ≤ 1) }
-    ensures { result ≡ record { answer = Done 0 (before + length (call_inputs (cipher_of key) key.zero (v3 (form_of form)) nonce.now ad.now tag)); sealer = begun_by (cipher_of key) key.zero key.rounds key.words form nonce.now ad.now tag } }
+    ensures { result ≡ record { answer = Done 0 (before + length (call_inputs (cipher_of key) key.zero (V3 (form_of form)) nonce.now ad.now tag)); sealer = begun_by (cipher_of key) key.zero key.rounds key.words form nonce.now ad.now tag } }
 {
     let nr = key.rounds;
     let w = key.words;

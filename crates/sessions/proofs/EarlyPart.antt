@@ -10,12 +10,12 @@ use Rattle.lists.specs.Zeros.{zeros}
 use Rattle.aes.specs.Cipher.{cipher}
 use Rattle.aes.specs.Key.{expanded}
 use Rattle.mode.specs.Form.{form_of}
-use Rattle.mode.specs.Edition.{Edition, v3}
+use Rattle.mode.specs.Edition.{Edition, V3}
 use Rattle.mode.specs.Masks.{Masks, IsCipher}
 use Rattle.mode.specs.Message.{pairs_of, pairs}
 use Rattle.mode.specs.Sealing.{masks, otr, otr_inputs}
 use Rattle.mode.specs.EarlyPart.{early}
-use Rattle.mode.proofs.Edition.{is_parallel}
+use Rattle.mode.proofs.Editions.{is_parallel}
 use Rattle.mode.proofs.EarlyPart.{renamed, fed_tell, parallel_masks}
 use Rattle.pairs.proofs.Cipher.{is_cipher}
 use Rattle.link.specs.Answers.{runs_of}
@@ -31,7 +31,7 @@ module _ (C : ℕ → List ℕ → List ℕ → List ℕ) (ciphers : (nr : ℕ) 
   e = ciphers (expanded key).rounds (expanded key).words
 
   abbrev f : Edition
-  f = v3 (form_of form)
+  f = V3 (form_of form)
 
   -- the masks that the data give
   abbrev k : List ℕ → Masks

@@ -10,7 +10,7 @@ use Rattle.lists.specs.Zeros.{zeros}
 use Rattle.aes.specs.Cipher.{cipher}
 use Rattle.aes.specs.Expansion.{aes}
 use Rattle.mode.specs.Form.{form_of}
-use Rattle.mode.specs.Edition.{v3}
+use Rattle.mode.specs.Edition.{V3}
 use Rattle.mode.specs.Sealing.{otr, otr_inputs}
 use Rattle.mode.proofs.Otr.{length-otr}
 use Rattle.pairs.proofs.Cipher.{is_cipher}
@@ -30,7 +30,7 @@ module _ (form : ℕ) (key nonce ad : List ℕ) (t : ℕ) (yes : number_of (begi
   pub session : (m o : List ℕ) (j : ℕ) (last : Sealer) → Session cipher (beginning cipher form key nonce ad t).sealer m o j last
       → Came (sealing 3 form key nonce ad t) (seal_runs 3 form key nonce ad t) m o (runs_of (beginning cipher form key nonce ad t).answer + j) last
   session m o j last h =
-      subst (λ (E : List ℕ → List ℕ). Came (otr E (v3 (form_of form)) nonce ad t) (λ n. length (otr_inputs E (v3 (form_of form)) nonce ad t n)) m o (runs_of (beginning cipher form key nonce ad t).answer + j) last)
+      subst (λ (E : List ℕ → List ℕ). Came (otr E (V3 (form_of form)) nonce ad t) (λ n. length (otr_inputs E (V3 (form_of form)) nonce ad t n)) m o (runs_of (beginning cipher form key nonce ad t).answer + j) last)
       (cipher_is key (begun_with_lem cipher is_cipher form key nonce ad t yes).0.known)
       (any_session cipher is_cipher form key nonce ad t yes m o j last h)
 
@@ -43,7 +43,7 @@ module _ (form : ℕ) (key nonce ad : List ℕ) (t : ℕ) (yes : number_of (begi
         let verdict = seal_verdict 3 form (known_key (length key)) (length nonce) t (length ad) (length m) (length out) in
         let done = sealing_done verdict (seal_runs 3 form key nonce ad t m) (sealing 3 form key nonce ad t m) out r after p z in
         let long : length (sealing 3 form key nonce ad t m) ≡ length m + t =
-        length-otr (aes key) (aes_cipher key) (aes key (zeros 16)) (v3 (form_of form)) nonce ad t (aes_ta key (v3 (form_of form)) ad) done.0.0.nonces.1 done.0.0.tags.1 m in (
+        length-otr (aes key) (aes_cipher key) (aes key (zeros 16)) (V3 (form_of form)) nonce ad t (aes_ta key (V3 (form_of form)) ad) done.0.0.nonces.1 done.0.0.tags.1 m in (
           ap₂ (λ (n : ℕ) (b : List ℕ). take n b) (ap length_of done.1) done.2
               ∙ take_at (sealing 3 form key nonce ad t m) (drop (0 + length (sealing 3 form key nonce ad t m)) out) (length m + t) long,
           ap runs_of done.1,

@@ -9,7 +9,7 @@ use Rattle.lists.specs.Zeros.{zeros}
 use Rattle.aes.specs.Key.{expanded}
 use Rattle.block.specs.Block.{triple}
 use Rattle.mode.specs.Form.{form_of}
-use Rattle.mode.specs.Edition.{v3}
+use Rattle.mode.specs.Edition.{V3}
 use Rattle.mode.specs.Masks.{Masks, doubles, third}
 use Rattle.mode.specs.Message.{blocks, pairs_of, rest, sum}
 use Rattle.mode.specs.Sealing.{u, masks, added}
@@ -66,8 +66,8 @@ module _ (C : ℕ → List ℕ → List ℕ → List ℕ) (form : ℕ) (key nonc
       record {
         rounds = (expanded key).rounds;
         words = (expanded key).words;
-        state = state_at (u E (E (zeros 16)) (v3 (form_of form)) nonce ad t) m;
-        added = added E (E (zeros 16)) (v3 (form_of form)) nonce ad t;
+        state = state_at (u E (E (zeros 16)) (V3 (form_of form)) nonce ad t) m;
+        added = added E (E (zeros 16)) (V3 (form_of form)) nonce ad t;
         tag = t;
         fed = length m;
       }
@@ -79,19 +79,19 @@ module _ (C : ℕ → List ℕ → List ℕ → List ℕ) (form : ℕ) (key nonc
         rounds = (expanded key).rounds;
         words = (expanded key).words;
         state = a;
-        added = added E (E (zeros 16)) (v3 (form_of form)) nonce ad t;
+        added = added E (E (zeros 16)) (V3 (form_of form)) nonce ad t;
         tag = t;
         fed = n;
       }
 
   U : List ℕ
-  U = u (keyed C key) (keyed C key (zeros 16)) (v3 (form_of form)) nonce ad t
+  U = u (keyed C key) (keyed C key (zeros 16)) (V3 (form_of form)) nonce ad t
 
   pub sealer_none : begun_with C form key nonce ad t ≡ sealer_at []
   unfolding U
   sealer_none = ap (λ (a : State). with a 0) (state_none U)
 
-  pub sealer_stands : (m : List ℕ) → standing (sealer_at m) ≡ reached (masks (keyed C key) (keyed C key (zeros 16)) (v3 (form_of form)) nonce ad t) m
+  pub sealer_stands : (m : List ℕ) → standing (sealer_at m) ≡ reached (masks (keyed C key) (keyed C key (zeros 16)) (V3 (form_of form)) nonce ad t) m
   unfolding U
   sealer_stands m = state_stands U m
 

@@ -16,7 +16,7 @@ use Rattle.lists.specs.Zeros.{zeros}
 use Rattle.lists.proofs.Zeros.{length-zeros}
 use Rattle.aes.specs.Key.{expanded}
 use Rattle.mode.specs.Form.{form_of}
-use Rattle.mode.specs.Edition.{Edition, v3}
+use Rattle.mode.specs.Edition.{Edition, V3}
 use Rattle.mode.specs.Masks.{Masks, IsCipher, AreMasks}
 use Rattle.mode.specs.Message.{blocks, pairs_of, rest, pairs, pairs_inputs}
 use Rattle.mode.specs.Data.{q_inputs, with_data}
@@ -67,7 +67,7 @@ module _ (C : ℕ → List ℕ → List ℕ → List ℕ) (ciphers : (nr : ℕ) 
   E = keyed C key
 
   abbrev f : Edition
-  f = v3 (form_of form)
+  f = V3 (form_of form)
 
   abbrev k : Masks
   k = masks E (E (zeros 16)) f nonce ad t
@@ -266,7 +266,7 @@ module _ (C : ℕ → List ℕ → List ℕ → List ℕ) (ciphers : (nr : ℕ) 
 
     -- for any cipher: after any calls what has come out is so much of what one call seals, or all of it
     pub any_session : (m o : List ℕ) (j : ℕ) (last : Sealer) → Session C (beginning C form key nonce ad t).sealer m o j last
-        → Came (otr (keyed C key) (v3 (form_of form)) nonce ad t) (λ n. length (otr_inputs (keyed C key) (v3 (form_of form)) nonce ad t n)) m o (runs_of (beginning C form key nonce ad t).answer + j) last
+        → Came (otr (keyed C key) (V3 (form_of form)) nonce ad t) (λ n. length (otr_inputs (keyed C key) (V3 (form_of form)) nonce ad t n)) m o (runs_of (beginning C form key nonce ad t).answer + j) last
     any_session m o j last h = go (from_begin m o j last h)
       where
         go : Stands m o j last → Came (otr E f nonce ad t) (λ n. length (otr_inputs E f nonce ad t n)) m o (runs_of (beginning C form key nonce ad t).answer + j) last

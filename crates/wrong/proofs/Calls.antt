@@ -11,8 +11,8 @@ use Rattle.lists.specs.Hex.{bytes}
 use Rattle.lists.specs.Zeros.{zeros}
 use Rattle.lists.proofs.Laid.{lay_whole}
 use Rattle.aes.specs.Expansion.{aes}
-use Rattle.mode.specs.Form.{parallel, form_of}
-use Rattle.mode.specs.Edition.{Edition, v3, edition_of}
+use Rattle.mode.specs.Form.{Parallel, form_of}
+use Rattle.mode.specs.Edition.{Edition, V3, edition_of}
 use Rattle.mode.specs.Sealing.{otr}
 use Rattle.mode.proofs.Otr.{length-otr, otr_injective}
 use Rattle.link.specs.Answers.{number_of, runs_of}
@@ -55,7 +55,7 @@ empty (x ∷ m) h = absurd (omega arith)
 
 -- without data, a message of so many bytes runs the cipher as often whatever is named
 runs_are : (f : Edition) (m : ℕ) → formula f m 0 ≡ 2 + (m + 15) / 16
-runs_are f m = named_alike f (v3 parallel) m 0 ∙ omega arith
+runs_are f m = named_alike f (V3 Parallel) m 0 ∙ omega arith
 
 -- edition 3, parallel and serial, and edition 1
 pub third_parallel : Named 3 0
@@ -215,9 +215,9 @@ module _ (edition form : ℕ) (named : Named edition form) where
       omega arith
 
 -- ---- with a nonce of 15 bytes, in edition 3: lays the marker over the tag byte, so that the nonce block is 01 and the nonce
-pub marker_laid_over : (form : ℕ) → form ≤ 1 → (r : Answer) → Seals 3 form key nonce15 [] (one 0) 15 room16 r (from_block (v3 (form_of form)) (1 ∷ nonce15) 15 (one 0)) → ⊥
+pub marker_laid_over : (form : ℕ) → form ≤ 1 → (r : Answer) → Seals 3 form key nonce15 [] (one 0) 15 room16 r (from_block (V3 (form_of form)) (1 ∷ nonce15) 15 (one 0)) → ⊥
 marker_laid_over form most r p =
-    let laid = from_block (v3 (form_of form)) (1 ∷ nonce15) 15 (one 0) in
+    let laid = from_block (V3 (form_of form)) (1 ∷ nonce15) 15 (one 0) in
     laid_apart (form_of form) (ap (λ (l : List ℕ). get_or l 0 0) (sealed_15 3 form (inr (refl, most)) r laid p).1)
 
 -- ---- takes what one call names for what another does, where the byte 0 seals differently: what the promise of the one allows, that of the

@@ -8,7 +8,7 @@ use Rattle.lists.specs.Hex.{bytes}
 use Rattle.lists.specs.Zeros.{zeros}
 use Rattle.aes.specs.Expansion.{aes}
 use Rattle.block.specs.Block.{pad}
-use Rattle.mode.specs.Edition.{v1}
+use Rattle.mode.specs.Edition.{V1}
 use Rattle.mode.specs.Nonce.{format}
 use Rattle.mode.specs.Sealing.{sealed, data_tag}
 use Rattle.link.specs.Answers.{number_of}
@@ -31,16 +31,16 @@ abbrev pub room64 : List ℕ
 room64 = bytes 80 0
 
 pub doubles_right_lem : (r : Answer)
-    → Seals 1 0 key nonce [] m64 16 room64 r (sealed (aes key) (doubles_right (aes key (pad nonce))) (data_tag (aes key) (aes key (zeros 16)) v1 []) 16 m64) → ⊥
+    → Seals 1 0 key nonce [] m64 16 room64 r (sealed (aes key) (doubles_right (aes key (pad nonce))) (data_tag (aes key) (aes key (zeros 16)) V1 []) 16 m64) → ⊥
 doubles_right_lem r p =
-    let a = data_tag (aes key) (aes key (zeros 16)) v1 [] in
+    let a = data_tag (aes key) (aes key (zeros 16)) V1 [] in
     let wrong = sealed (aes key) (doubles_right (aes key (pad nonce))) a 16 m64 in
     doubled_apart a a (ap (λ (l : List ℕ). get_or l 32 0) (all_sealed 1 0 first_parallel nonce m64 16 room64 (limits 1 0 first_parallel) (omega arith) (omega arith) r wrong p).1)
 
 -- ---- puts the tag length into edition 1's nonce block, as edition 3 does
-pub binds_tag_length : (r : Answer) → Seals 1 0 key nonce [] (one 0) 16 room r (from_block v1 (format 16 nonce) 16 (one 0)) → ⊥
+pub binds_tag_length : (r : Answer) → Seals 1 0 key nonce [] (one 0) 16 room r (from_block V1 (format 16 nonce) 16 (one 0)) → ⊥
 binds_tag_length r p =
-    let wrong = from_block v1 (format 16 nonce) 16 (one 0) in
+    let wrong = from_block V1 (format 16 nonce) 16 (one 0) in
     bound_apart (ap (λ (l : List ℕ). get_or l 0 0) (all_sealed 1 0 first_parallel nonce (one 0) 16 room (limits 1 0 first_parallel) (omega arith) (omega arith) r wrong p).1)
 
 -- ---- answers 8 before 10: neither the edition nor the form is one

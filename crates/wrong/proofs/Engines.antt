@@ -8,8 +8,8 @@ use lib.ListN.{length, get_or, take}
 use lib.Seq.{get_or-take}
 use Rattle.lists.specs.Zeros.{zeros}
 use Rattle.aes.specs.Expansion.{aes}
-use Rattle.mode.specs.Form.{parallel}
-use Rattle.mode.specs.Edition.{v3}
+use Rattle.mode.specs.Form.{Parallel}
+use Rattle.mode.specs.Edition.{V3}
 use Rattle.mode.specs.Message.{blocks, pairs_of, pairs}
 use Rattle.mode.specs.Sealing.{masks}
 use Rattle.mode.specs.Feeding.{from}
@@ -60,7 +60,7 @@ module _ (key nonce ad m : List ℕ) (t : ℕ) (plan out : List ℕ) (r : Answer
 
 -- ---- a program whose masks are off by one doubling: those of the next pair
 pub off_by_a_doubling : (plan : List ℕ) → Accepted 1 plan → (r : Answer) (after : List ℕ)
-    → take 32 after ≡ pairs (aes key) (from 1 (masks (aes key) (aes key (zeros 16)) (v3 parallel) nonce [] 16)) 1 m33 → SealsPlanned key nonce [] m33 16 plan room33 r after → ⊥
+    → take 32 after ≡ pairs (aes key) (from 1 (masks (aes key) (aes key (zeros 16)) (V3 Parallel) nonce [] 16)) 1 m33 → SealsPlanned key nonce [] m33 16 plan room33 r after → ⊥
 unfolding blocks pairs_of
 off_by_a_doubling plan is r after wrong p =
     let seals = planned_seals key nonce [] m33 16 room33 plan r after p is in

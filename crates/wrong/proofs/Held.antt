@@ -14,8 +14,8 @@ use Rattle.field.specs.Substitution.{affine, substitute}
 use Rattle.aes.specs.Cipher.{add_round_key, round, last_round, rounds, cipher}
 use Rattle.aes.proofs.Front.{cipher_front}
 use Rattle.block.specs.Block.{pad, shift, double}
-use Rattle.mode.specs.Form.{parallel, serial}
-use Rattle.mode.specs.Edition.{Edition, v1, v3}
+use Rattle.mode.specs.Form.{Parallel, Serial}
+use Rattle.mode.specs.Edition.{Edition, V1, V3}
 use Rattle.mode.specs.Masks.{Masks, AreMasks, doubles, third, first}
 use Rattle.mode.specs.Message.{blocks, pairs_of, even}
 use Rattle.mode.specs.Data.{data_sum, chain, ta}
@@ -56,33 +56,33 @@ own_is : E (zeros 16) ≡ own
 unfolding w xor zeros product inverse affine substitute add_round_key round last_round rounds cipher
 own_is = refl
 
-parallel_own : get_or (data_tag E own (v3 parallel) (one 0)) 0 0 ≡ 0x1c
+parallel_own : get_or (data_tag E own (V3 Parallel) (one 0)) 0 0 ≡ 0x1c
 unfolding w xor zeros pad shift double doubles blocks data_sum ta product inverse affine substitute add_round_key round last_round rounds cipher
 parallel_own = refl
 
-parallel_zeros : get_or (data_tag E (zeros 16) (v3 parallel) (one 0)) 0 0 ≡ 0xb9
+parallel_zeros : get_or (data_tag E (zeros 16) (V3 Parallel) (one 0)) 0 0 ≡ 0xb9
 unfolding w xor zeros pad shift double doubles blocks data_sum ta product inverse affine substitute add_round_key round last_round rounds cipher
 parallel_zeros = refl
 
-first_own_tag : get_or (data_tag E own v1 (one 0)) 0 0 ≡ 0xd4
+first_own_tag : get_or (data_tag E own V1 (one 0)) 0 0 ≡ 0xd4
 unfolding w xor zeros pad shift double doubles blocks data_sum ta product inverse affine substitute add_round_key round last_round rounds cipher
 first_own_tag = refl
 
-first_zeros_tag : get_or (data_tag E (zeros 16) v1 (one 0)) 0 0 ≡ 0xb9
+first_zeros_tag : get_or (data_tag E (zeros 16) V1 (one 0)) 0 0 ≡ 0xb9
 unfolding w xor zeros pad shift double doubles blocks data_sum ta product inverse affine substitute add_round_key round last_round rounds cipher
 first_zeros_tag = refl
 
 abbrev ta_own : List ℕ
 ta_own = bytes 16 0x916b9e12ea13245a66de55991d4f3511
 
-serial_own : data_tag E own (v3 serial) (one 0) ≡ ta_own
+serial_own : data_tag E own (V3 Serial) (one 0) ≡ ta_own
 unfolding w xor zeros pad shift double blocks chain ta product inverse affine substitute add_round_key round last_round rounds cipher
 serial_own = refl
 
 abbrev ta_zeros : List ℕ
 ta_zeros = bytes 16 0xb970dfbe40698af1638fe38bd3df3b2f
 
-serial_zeros : data_tag E (zeros 16) (v3 serial) (one 0) ≡ ta_zeros
+serial_zeros : data_tag E (zeros 16) (V3 Serial) (one 0) ≡ ta_zeros
 unfolding w xor zeros pad shift double blocks chain ta product inverse affine substitute add_round_key round last_round rounds cipher
 serial_zeros = refl
 
@@ -98,11 +98,11 @@ first_zeros = refl
 nonce_long : length (E (format 16 nonce)) ≡ 16
 nonce_long = is_cipher 10 w (format 16 nonce) (length-format 16 nonce (omega arith))
 
-first_byte : (q a : List ℕ) → data_tag E q (v3 serial) (one 0) ≡ a → get_or (otr_from E q (v3 serial) nonce (one 0) 16 (one 0)) 0 0 ≡ bit_xor 0 (get_or (E (double (xor v12 a))) 0 0)
+first_byte : (q a : List ℕ) → data_tag E q (V3 Serial) (one 0) ≡ a → get_or (otr_from E q (V3 Serial) nonce (one 0) 16 (one 0)) 0 0 ≡ bit_xor 0 (get_or (E (double (xor v12 a))) 0 0)
 unfolding blocks pairs_of even doubles
 first_byte q a is =
-    let u = double (xor (E (format 16 nonce)) (data_tag E q (v3 serial) (one 0))) in
-    let u-long = length-double _ (xor_sixteen (E (format 16 nonce)) (data_tag E q (v3 serial) (one 0)) nonce_long (length-ta 10 w q (v3 serial) (one 0))) in
+    let u = double (xor (E (format 16 nonce)) (data_tag E q (V3 Serial) (one 0))) in
+    let u-long = length-double _ (xor_sixteen (E (format 16 nonce)) (data_tag E q (V3 Serial) (one 0)) nonce_long (length-ta 10 w q (V3 Serial) (one 0))) in
     byte_of_one E (is_cipher 10 w) (third u) (third_masks u u-long) (zeros 16) (one 0) 16 (omega arith) refl
     ∙ ap₂ (λ (v x : List ℕ). bit_xor 0 (get_or (E (double (xor v x))) 0 0)) nonce_12 is
 
@@ -115,13 +115,13 @@ tags_apart f k s differ h =
     (shows_added E (is_cipher 10 w) k s (data_tag E own f (one 0)) (data_tag E (zeros 16) f (one 0)) (length-ta 10 w own f (one 0)) (length-ta 10 w (zeros 16) f (one 0)) (one 0) h))
 
 apart : (f : Edition) → otr_from E own f nonce (one 0) 16 (one 0) ≡ otr_from E (zeros 16) f nonce (one 0) 16 (one 0) → ⊥
-apart v1 =
-    tags_apart v1 (first (E (pad nonce))) (first_masks (E (pad nonce)) (is_cipher 10 w (pad nonce) (length-pad nonce (omega arith))))
+apart V1 =
+    tags_apart V1 (first (E (pad nonce))) (first_masks (E (pad nonce)) (is_cipher 10 w (pad nonce) (length-pad nonce (omega arith))))
     (λ h. let z : ◌≡◌ {A = ℕ} 0xd4 0xb9 = sym first_own_tag ∙ h ∙ first_zeros_tag in omega arith)
-apart (v3 parallel) =
-    tags_apart (v3 parallel) (third (E (format 16 nonce))) (third_masks (E (format 16 nonce)) nonce_long)
+apart (V3 Parallel) =
+    tags_apart (V3 Parallel) (third (E (format 16 nonce))) (third_masks (E (format 16 nonce)) nonce_long)
     (λ h. let z : ◌≡◌ {A = ℕ} 0x1c 0xb9 = sym parallel_own ∙ h ∙ parallel_zeros in omega arith)
-apart (v3 serial) =
+apart (V3 Serial) =
     λ h.
     let z : ◌≡◌ {A = ℕ} 0x43 0x89 =
     sym (first_byte own ta_own serial_own ∙ ap (bit_xor 0) first_own) ∙ ap (λ (l : List ℕ). get_or l 0 0) h ∙ first_byte (zeros 16) ta_zeros serial_zeros ∙ ap (bit_xor 0) first_zeros in

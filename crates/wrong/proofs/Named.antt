@@ -19,8 +19,8 @@ use Rattle.field.specs.Substitution.{affine, substitute}
 use Rattle.aes.specs.Cipher.{add_round_key, round, last_round, rounds, cipher}
 use Rattle.aes.specs.Expansion.{power, temp, next, words, key_expansion, aes}
 use Rattle.block.specs.Block.{pad, shift, double}
-use Rattle.mode.specs.Form.{Form, parallel, serial}
-use Rattle.mode.specs.Edition.{Edition, v1, v3, form_in}
+use Rattle.mode.specs.Form.{Form, Parallel, Serial}
+use Rattle.mode.specs.Edition.{Edition, V1, V3, form_in}
 use Rattle.mode.specs.Masks.{Masks, IsCipher, AreMasks, doubles, first, masks_of}
 use Rattle.mode.specs.Message.{blocks, pairs_of, even, rest, half, last, ending, pairs, body}
 use Rattle.mode.specs.Nonce.{format, nonce_block}
@@ -160,13 +160,13 @@ abbrev pub delta : List ℕ
 delta = bytes 16 0x3423d8efc31fa2f4c365c77d8f3b5c63
 
 abbrev out12 : Edition → List ℕ
-out12 v1 = delta
-out12 (v3 f) = v12
+out12 V1 = delta
+out12 (V3 f) = v12
 
 abbrev byte12 : Edition → ℕ
-byte12 v1 = 0x6c
-byte12 (v3 parallel) = 0xe0
-byte12 (v3 serial) = 0x3a
+byte12 V1 = 0x6c
+byte12 (V3 Parallel) = 0xe0
+byte12 (V3 Serial) = 0x3a
 
 pub nonce_12 : cipher 10 w (format 16 nonce) ≡ v12
 unfolding w xor zeros zip_with format product inverse affine substitute add_round_key round last_round rounds cipher
@@ -178,43 +178,43 @@ delta_is = refl
 
 ciphered_12 : (f : Edition) → Ciphered f (nonce_block f 16 nonce) (out12 f) (byte12 f)
 unfolding w xor zeros zip_with format pad shift double doubles product inverse affine substitute add_round_key round last_round rounds cipher
-ciphered_12 v1 = record { long = refl; is = delta_is; first = refl }
-ciphered_12 (v3 parallel) = record { long = refl; is = nonce_12; first = refl }
-ciphered_12 (v3 serial) = record { long = refl; is = nonce_12; first = refl }
+ciphered_12 V1 = record { long = refl; is = delta_is; first = refl }
+ciphered_12 (V3 Parallel) = record { long = refl; is = nonce_12; first = refl }
+ciphered_12 (V3 Serial) = record { long = refl; is = nonce_12; first = refl }
 
 -- the nonce of 15 and a tag of 15, in v3.1
 abbrev v15 : List ℕ
 v15 = bytes 16 0x6fcc84c6d631595a514057a8f1af8648
 
 abbrev byte15 : Form → ℕ
-byte15 parallel = 0x99
-byte15 serial = 0x51
+byte15 Parallel = 0x99
+byte15 Serial = 0x51
 
 nonce_15 : cipher 10 w (format 15 nonce15) ≡ v15
 unfolding w xor zeros zip_with format product inverse affine substitute add_round_key round last_round rounds cipher
 nonce_15 = refl
 
-ciphered_15 : (f : Form) → Ciphered (v3 f) (format 15 nonce15) v15 (byte15 f)
+ciphered_15 : (f : Form) → Ciphered (V3 f) (format 15 nonce15) v15 (byte15 f)
 unfolding w xor zeros zip_with format shift double doubles product inverse affine substitute add_round_key round last_round rounds cipher
-ciphered_15 parallel = record { long = refl; is = nonce_15; first = refl }
-ciphered_15 serial = record { long = refl; is = nonce_15; first = refl }
+ciphered_15 Parallel = record { long = refl; is = nonce_15; first = refl }
+ciphered_15 Serial = record { long = refl; is = nonce_15; first = refl }
 
 -- the same with the marker laid over the tag byte: 01 and the nonce
 abbrev v_laid : List ℕ
 v_laid = bytes 16 0x47711816e91d6ff059bbbf2bf58e0fd3
 
 abbrev byte_laid : Form → ℕ
-byte_laid parallel = 0x83
-byte_laid serial = 0x39
+byte_laid Parallel = 0x83
+byte_laid Serial = 0x39
 
 laid_15 : cipher 10 w (1 ∷ nonce15) ≡ v_laid
 unfolding w xor zeros product inverse affine substitute add_round_key round last_round rounds cipher
 laid_15 = refl
 
-ciphered_laid : (f : Form) → Ciphered (v3 f) (1 ∷ nonce15) v_laid (byte_laid f)
+ciphered_laid : (f : Form) → Ciphered (V3 f) (1 ∷ nonce15) v_laid (byte_laid f)
 unfolding w xor zeros shift double doubles product inverse affine substitute add_round_key round last_round rounds cipher
-ciphered_laid parallel = record { long = refl; is = laid_15; first = refl }
-ciphered_laid serial = record { long = refl; is = laid_15; first = refl }
+ciphered_laid Parallel = record { long = refl; is = laid_15; first = refl }
+ciphered_laid Serial = record { long = refl; is = laid_15; first = refl }
 
 -- E(4v), for the nonce of 12, and E(8δ)
 fourfold : get_or (cipher 10 w (doubles 2 v12)) 0 0 ≡ 0x04
@@ -234,18 +234,18 @@ first_byte : (f : Edition) → get_or (otr (aes key) f nonce [] 16 (one 0)) 0 0 
 first_byte f = first_of f (nonce_block f 16 nonce) (out12 f) (byte12 f) (ciphered_12 f) 16
 
 pub first_some : (f : Edition) → get_or (otr (aes key) f nonce [] 16 (one 0)) 0 0 ≡ 0 → ⊥
-first_some v1 h = let z : ◌≡◌ {A = ℕ} 0x6c 0 = sym (first_byte v1) ∙ h in omega arith
-first_some (v3 parallel) h = let z : ◌≡◌ {A = ℕ} 0xe0 0 = sym (first_byte (v3 parallel)) ∙ h in omega arith
-first_some (v3 serial) h = let z : ◌≡◌ {A = ℕ} 0x3a 0 = sym (first_byte (v3 serial)) ∙ h in omega arith
+first_some V1 h = let z : ◌≡◌ {A = ℕ} 0x6c 0 = sym (first_byte V1) ∙ h in omega arith
+first_some (V3 Parallel) h = let z : ◌≡◌ {A = ℕ} 0xe0 0 = sym (first_byte (V3 Parallel)) ∙ h in omega arith
+first_some (V3 Serial) h = let z : ◌≡◌ {A = ℕ} 0x3a 0 = sym (first_byte (V3 Serial)) ∙ h in omega arith
 
 pub apart : (f g : Edition) → (bit_xor 0 (byte12 f) ≡ bit_xor 0 (byte12 g) → ⊥) → otr (aes key) f nonce [] 16 (one 0) ≡ otr (aes key) g nonce [] 16 (one 0) → ⊥
 apart f g differ e = differ (sym (first_byte f) ∙ ap (λ (l : List ℕ). get_or l 0 0) e ∙ first_byte g)
 
-pub forms_apart : otr (aes key) (v3 parallel) nonce [] 16 (one 0) ≡ otr (aes key) (v3 serial) nonce [] 16 (one 0) → ⊥
-forms_apart = apart (v3 parallel) (v3 serial) (λ h. let z : ◌≡◌ {A = ℕ} 0xe0 0x3a = h in omega arith)
+pub forms_apart : otr (aes key) (V3 Parallel) nonce [] 16 (one 0) ≡ otr (aes key) (V3 Serial) nonce [] 16 (one 0) → ⊥
+forms_apart = apart (V3 Parallel) (V3 Serial) (λ h. let z : ◌≡◌ {A = ℕ} 0xe0 0x3a = h in omega arith)
 
-pub editions_apart : otr (aes key) (v3 parallel) nonce [] 16 (one 0) ≡ otr (aes key) v1 nonce [] 16 (one 0) → ⊥
-editions_apart = apart (v3 parallel) v1 (λ h. let z : ◌≡◌ {A = ℕ} 0xe0 0x6c = h in omega arith)
+pub editions_apart : otr (aes key) (V3 Parallel) nonce [] 16 (one 0) ≡ otr (aes key) V1 nonce [] 16 (one 0) → ⊥
+editions_apart = apart (V3 Parallel) V1 (λ h. let z : ◌≡◌ {A = ℕ} 0xe0 0x6c = h in omega arith)
 
 -- the last that 33 zeros seal to, behind their pair
 byte_32 : (f : Edition) → get_or (otr (aes key) f nonce [] 16 m33) 32 0 ≡ bit_xor 0 (get_or (cipher 10 w ((from f (out12 f)).left 1)) 0 0)
@@ -254,25 +254,25 @@ byte_32 f = byte_from f (nonce_block f 16 nonce) (out12 f) m33 16 (ciphered_12 f
 
 pub last_some : (f : Edition) → get_or (otr (aes key) f nonce [] 16 m33) 32 0 ≡ 0 → ⊥
 unfolding doubles
-last_some v1 h = let z : ◌≡◌ {A = ℕ} 0x7d 0 = sym (byte_32 v1 ∙ ap (λ (l : List ℕ). bit_xor 0 (get_or l 0 0)) z_is) ∙ h in omega arith
-last_some (v3 parallel) h = let z : ◌≡◌ {A = ℕ} 0x3a 0 = sym (byte_32 (v3 parallel) ∙ ap (bit_xor 0) (ciphered_12 (v3 serial)).first) ∙ h in omega arith
-last_some (v3 serial) h = let z : ◌≡◌ {A = ℕ} 0x04 0 = sym (byte_32 (v3 serial) ∙ ap (bit_xor 0) fourfold) ∙ h in omega arith
+last_some V1 h = let z : ◌≡◌ {A = ℕ} 0x7d 0 = sym (byte_32 V1 ∙ ap (λ (l : List ℕ). bit_xor 0 (get_or l 0 0)) z_is) ∙ h in omega arith
+last_some (V3 Parallel) h = let z : ◌≡◌ {A = ℕ} 0x3a 0 = sym (byte_32 (V3 Parallel) ∙ ap (bit_xor 0) (ciphered_12 (V3 Serial)).first) ∙ h in omega arith
+last_some (V3 Serial) h = let z : ◌≡◌ {A = ℕ} 0x04 0 = sym (byte_32 (V3 Serial) ∙ ap (bit_xor 0) fourfold) ∙ h in omega arith
 
 -- the first from the block with the marker laid over the tag byte, which differs from the right one
-pub laid_apart : (f : Form) → get_or (from_block (v3 f) (1 ∷ nonce15) 15 (one 0)) 0 0 ≡ get_or (otr (aes key) (v3 f) nonce15 [] 15 (one 0)) 0 0 → ⊥
-laid_apart f h = differ f (sym (first_of (v3 f) (1 ∷ nonce15) v_laid (byte_laid f) (ciphered_laid f) 15) ∙ h ∙ first_of (v3 f) (format 15 nonce15) v15 (byte15 f) (ciphered_15 f) 15)
+pub laid_apart : (f : Form) → get_or (from_block (V3 f) (1 ∷ nonce15) 15 (one 0)) 0 0 ≡ get_or (otr (aes key) (V3 f) nonce15 [] 15 (one 0)) 0 0 → ⊥
+laid_apart f h = differ f (sym (first_of (V3 f) (1 ∷ nonce15) v_laid (byte_laid f) (ciphered_laid f) 15) ∙ h ∙ first_of (V3 f) (format 15 nonce15) v15 (byte15 f) (ciphered_15 f) 15)
   where
     differ : (f : Form) → bit_xor 0 (byte_laid f) ≡ bit_xor 0 (byte15 f) → ⊥
-    differ parallel h = let z : ◌≡◌ {A = ℕ} 0x83 0x99 = h in omega arith
-    differ serial h = let z : ◌≡◌ {A = ℕ} 0x39 0x51 = h in omega arith
+    differ Parallel h = let z : ◌≡◌ {A = ℕ} 0x83 0x99 = h in omega arith
+    differ Serial h = let z : ◌≡◌ {A = ℕ} 0x39 0x51 = h in omega arith
 
 -- v1's first from a nonce block with the tag length in it, v3.1's
-ciphered_bound : Ciphered v1 (format 16 nonce) v12 0x04
+ciphered_bound : Ciphered V1 (format 16 nonce) v12 0x04
 unfolding doubles
-ciphered_bound = record { long = (ciphered_12 (v3 parallel)).long; is = nonce_12; first = fourfold }
+ciphered_bound = record { long = (ciphered_12 (V3 Parallel)).long; is = nonce_12; first = fourfold }
 
-pub bound_apart : get_or (from_block v1 (format 16 nonce) 16 (one 0)) 0 0 ≡ get_or (otr (aes key) v1 nonce [] 16 (one 0)) 0 0 → ⊥
-bound_apart h = let z : ◌≡◌ {A = ℕ} 0x04 0x6c = sym (first_of v1 (format 16 nonce) v12 0x04 ciphered_bound 16) ∙ h ∙ first_byte v1 in omega arith
+pub bound_apart : get_or (from_block V1 (format 16 nonce) 16 (one 0)) 0 0 ≡ get_or (otr (aes key) V1 nonce [] 16 (one 0)) 0 0 → ⊥
+bound_apart h = let z : ◌≡◌ {A = ℕ} 0x04 0x6c = sym (first_of V1 (format 16 nonce) v12 0x04 ciphered_bound 16) ∙ h ∙ first_byte V1 in omega arith
 
 -- ---- v1 with L' doubled as a whole: as long as no pair is out its masks are the right ones
 abbrev pub doubles_right : List ℕ → Masks
@@ -340,14 +340,14 @@ pair_first E e k s =
 
 -- the masks of the named nonce, in v3.1 with parallel data
 abbrev masks12 : Masks
-masks12 = masks (aes key) (aes key (zeros 16)) (v3 parallel) nonce [] 16
+masks12 = masks (aes key) (aes key (zeros 16)) (V3 Parallel) nonce [] 16
 
 nonce_long : length (aes key (format 16 nonce)) ≡ 16
-nonce_long = aes_cipher key (format 16 nonce) (ciphered_12 (v3 parallel)).long
+nonce_long = aes_cipher key (format 16 nonce) (ciphered_12 (V3 Parallel)).long
 
 are_masks12 : (n : ℕ) → AreMasks (from_pair n masks12)
 are_masks12 n =
-    let s = edition_masks (v3 parallel) (aes key (format 16 nonce)) nonce_long in
+    let s = edition_masks (V3 Parallel) (aes key (format 16 nonce)) nonce_long in
     record { left = λ i. s.left (n + i); right = λ i. s.right (n + i); if_short = s.if_short; if_full = s.if_full }
 
 -- from pair n on, and its own first byte is what is sealed
@@ -360,16 +360,16 @@ first_from n =
 first_of_all : (x y z : List ℕ) → 0 < length x → get_or ((x ++ y) ++ z) 0 0 ≡ get_or x 0 0
 first_of_all x y z some = get_or-append (x ++ y) z 0 0 (omega (arith, length-append x y)) ∙ get_or-append x y 0 0 some
 
-pub first_of_pair : get_or (otr (aes key) (v3 parallel) nonce [] 16 m33) 0 0 ≡ get_or (pairs (aes key) masks12 1 m33) 0 0
+pub first_of_pair : get_or (otr (aes key) (V3 Parallel) nonce [] 16 m33) 0 0 ≡ get_or (pairs (aes key) masks12 1 m33) 0 0
 unfolding sealed body blocks pairs_of
 first_of_pair =
     let front = pairs (aes key) masks12 1 m33 in
-    let long : length front ≡ 32 = length_pairs (aes key) (aes_cipher key) masks12 (edition_masks (v3 parallel) (aes key (format 16 nonce)) nonce_long) 1 m33 (omega arith) in
+    let long : length front ≡ 32 = length_pairs (aes key) (aes_cipher key) masks12 (edition_masks (V3 Parallel) (aes key (format 16 nonce)) nonce_long) 1 m33 (omega arith) in
     first_of_all front _ _ (omega (arith, long))
 
 -- with the masks of the next pair it is another
-pub off_by_one : get_or (pairs (aes key) (from_pair 1 masks12) 1 m33) 0 0 ≡ get_or (otr (aes key) (v3 parallel) nonce [] 16 m33) 0 0 → ⊥
+pub off_by_one : get_or (pairs (aes key) (from_pair 1 masks12) 1 m33) 0 0 ≡ get_or (otr (aes key) (V3 Parallel) nonce [] 16 m33) 0 0 → ⊥
 unfolding doubles pairs
 off_by_one h =
-    let z : ◌≡◌ {A = ℕ} 0x3a 0xe0 = sym (first_from 1 ∙ ap (bit_xor 0) (ciphered_12 (v3 serial)).first) ∙ h ∙ first_of_pair ∙ first_from 0 ∙ ap (bit_xor 0) (ciphered_12 (v3 parallel)).first in
+    let z : ◌≡◌ {A = ℕ} 0x3a 0xe0 = sym (first_from 1 ∙ ap (bit_xor 0) (ciphered_12 (V3 Serial)).first) ∙ h ∙ first_of_pair ∙ first_from 0 ∙ ap (bit_xor 0) (ciphered_12 (V3 Parallel)).first in
     omega arith

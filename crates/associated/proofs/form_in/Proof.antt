@@ -1,7 +1,7 @@
 -- `associated::form_in` meets its contract. Assumes nothing.
 use mathlib.Core.Path.{sym, ap}
 use Rattle.mode.specs.Edition.{form_in}
-use Rattle.mode.proofs.Edition.{is_first, is_third}
+use Rattle.mode.proofs.Editions.{is_first, is_third}
 use Rattle.associated.proofs.form_in.Statement.{statement}
 use Rattle.associated.proofs.form_in.Tie as tie
 

@@ -11,7 +11,7 @@ use Rattle.mode.specs.Form.{Form}
 use Rattle.mode.specs.Edition.{edition_of}
 use Rattle.mode.specs.Nonce.{nonce_block}
 use Rattle.mode.specs.Sealing.{first_mask, into_tag, data_tag, call_inputs}
-use Rattle.mode.proofs.Edition.{is_parallel, is_serial}
+use Rattle.mode.proofs.Editions.{is_parallel, is_serial}
 use Rattle.mode.proofs.Runs.{length-call_inputs}
 use borrow.Author.Rules.{rules}
 use Rattle.associated.proofs.seals_with.Statement.{statement}

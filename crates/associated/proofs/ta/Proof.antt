@@ -4,9 +4,9 @@ use mathlib.Core.List.{List}
 use Prim.Native.Nat.{ℕ}
 use lib.ListN.{length}
 use Rattle.aes.specs.Cipher.{cipher}
-use Rattle.mode.specs.Edition.{Edition, v3, edition_of}
+use Rattle.mode.specs.Edition.{Edition, V3, edition_of}
 use Rattle.mode.specs.Data.{data_pass, ta, ta_inputs}
-use Rattle.mode.proofs.Edition.{is_parallel, is_serial, is_first, is_third}
+use Rattle.mode.proofs.Editions.{is_parallel, is_serial, is_first, is_third}
 use borrow.Author.Rules.{rules}
 use Rattle.associated.proofs.ta.Statement.{statement}
 use Rattle.associated.proofs.ta.Tie as tie
@@ -29,13 +29,13 @@ returns-2 : tie.Need-returns-then-form-eq0
 returns-2 c =
     let v = c.before.before.before.before.args in
     of-named (cipher v.nr v.w.now) v.q v.a.now (edition_of v.edition v.form) _
-    (is_third v.edition v.form c.before.before.if-edition-eq1.false ∙ ap v3 (is_parallel v.form c.before.if-form-eq0.true)) _ _ c.ta-then-form-eq0.ensures
+    (is_third v.edition v.form c.before.before.if-edition-eq1.false ∙ ap V3 (is_parallel v.form c.before.if-form-eq0.true)) _ _ c.ta-then-form-eq0.ensures
 
 returns-3 : tie.Need-returns
 returns-3 c =
     let v = c.before.before.before.before.args in
     of-named (cipher v.nr v.w.now) v.q v.a.now (edition_of v.edition v.form) _
-    (is_third v.edition v.form c.before.before.if-edition-eq1.false ∙ ap v3 (is_serial v.form c.before.if-form-eq0.false)) _ _ c.ta-2.ensures
+    (is_third v.edition v.form c.before.before.if-edition-eq1.false ∙ ap V3 (is_serial v.form c.before.if-form-eq0.false)) _ _ c.ta-2.ensures
 
 pub ta_spec : {M : Type 1} → statement M
 ta_spec = tie.close (tie.spec (λ c κs. search rules) returns (λ c κs. search rules) returns-2 (λ c κs. search rules) returns-3)

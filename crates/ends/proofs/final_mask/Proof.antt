@@ -4,7 +4,7 @@ use lib.Dec.{ltb}
 use Rattle.mode.specs.Edition.{Edition}
 use Rattle.mode.specs.Masks.{masks_of}
 use Rattle.mode.specs.Message.{final}
-use Rattle.mode.proofs.Edition.{is_first, is_third}
+use Rattle.mode.proofs.Editions.{is_first, is_third}
 use borrow.Author.Rules.{rules}
 use Rattle.ends.proofs.final_mask.Statement.{statement}
 use Rattle.ends.proofs.final_mask.Tie as tie

@@ -20,7 +20,7 @@ use Rattle.mode.specs.Sealing.{masks, added, call_inputs}
 use Rattle.mode.specs.Opening.{Opened}
 use Rattle.mode.specs.Undoing.{unbody, undone_inputs, answer, found_from, found_from_inputs}
 use Rattle.mode.proofs.Walk.{length-unbody}
-use Rattle.mode.proofs.Edition.{masks_alike}
+use Rattle.mode.proofs.Editions.{masks_alike}
 use Rattle.mode.proofs.Otr.{otr-masks}
 use Rattle.mode.proofs.Runs.{length-found_from_inputs}
 use Rattle.passes.specs.Shown.{shown, flag}

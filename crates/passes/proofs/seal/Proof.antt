@@ -11,7 +11,7 @@ use Rattle.mode.specs.Edition.{edition_of}
 use Rattle.mode.specs.Masks.{Masks}
 use Rattle.mode.specs.Message.{body, te}
 use Rattle.mode.specs.Sealing.{sealed_inputs, masks, added, call_inputs, from_inputs}
-use Rattle.mode.proofs.Edition.{masks_alike}
+use Rattle.mode.proofs.Editions.{masks_alike}
 use Rattle.mode.proofs.Otr.{otr-masks, length-added}
 use Rattle.mode.proofs.Runs.{length-from_inputs}
 use Rattle.pairs.proofs.Cipher.{is_cipher, length-ta}

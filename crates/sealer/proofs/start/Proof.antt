@@ -6,7 +6,7 @@ use native.Mathlib.Omega.{arith}
 use lib.ListN.{length}
 use Rattle.block.specs.Block.{triple}
 use Rattle.mode.specs.Form.{form_of}
-use Rattle.mode.specs.Edition.{v3}
+use Rattle.mode.specs.Edition.{V3}
 use Rattle.mode.specs.Sealing.{u, added, call_inputs}
 use Rattle.mode.proofs.Runs.{length-call_inputs}
 use Rattle.link.specs.Prepared.{cipher_of}
@@ -26,7 +26,7 @@ add-t22 c =
       fits = omega (
         arith,
         with.ensures.1.1,
-        length-call_inputs (cipher_of v.key) v.key.zero (v3 (form_of v.form)) v.nonce.now v.ad.now v.tag,
+        length-call_inputs (cipher_of v.key) v.key.zero (V3 (form_of v.form)) v.nonce.now v.ad.now v.tag,
         start.requires.1.1.1,
       );
     }
@@ -45,15 +45,15 @@ returns c =
     let with = c.before.before.before.before.before.before.seals_with-with in
     let v = c.before.before.before.before.before.before.before.before.before.before.before.before.args in
     let p = v.key in
-    let U = u (cipher_of p) p.zero (v3 (form_of v.form)) v.nonce.now v.ad.now v.tag in
+    let U = u (cipher_of p) p.zero (V3 (form_of v.form)) v.nonce.now v.ad.now v.tag in
     let R = c.before.before.before.triple.result in
     let Z = c.before.before.zeros.result in
     let K = c.before.blank.result in
     let runs_are = ap (λ (i : ℕ). v.before + i) with.ensures.1.1 in
     let R-is = c.before.before.before.triple.ensures ∙ ap triple with.ensures.0 in
     ap₂ (λ (i : ℕ) (l : List ℕ). step p v.tag i l R Z K with.result.added) runs_are with.ensures.0
-    ∙ ap₂ (λ (r a : List ℕ). step p v.tag (v.before + length (call_inputs (cipher_of p) p.zero (v3 (form_of v.form)) v.nonce.now v.ad.now v.tag)) U r Z K a) R-is with.ensures.1.0
-    ∙ ap₂ (λ (z k : List ℕ). step p v.tag (v.before + length (call_inputs (cipher_of p) p.zero (v3 (form_of v.form)) v.nonce.now v.ad.now v.tag)) U (triple U) z k (added (cipher_of p) p.zero (v3 (form_of v.form)) v.nonce.now v.ad.now v.tag))
+    ∙ ap₂ (λ (r a : List ℕ). step p v.tag (v.before + length (call_inputs (cipher_of p) p.zero (V3 (form_of v.form)) v.nonce.now v.ad.now v.tag)) U r Z K a) R-is with.ensures.1.0
+    ∙ ap₂ (λ (z k : List ℕ). step p v.tag (v.before + length (call_inputs (cipher_of p) p.zero (V3 (form_of v.form)) v.nonce.now v.ad.now v.tag)) U (triple U) z k (added (cipher_of p) p.zero (V3 (form_of v.form)) v.nonce.now v.ad.now v.tag))
     c.before.before.zeros.ensures c.before.blank.ensures
 
 pub start_spec : {M : Type 1} → statement M

@@ -2,7 +2,7 @@
 use mathlib.Core.Path.{sym, ap, ◌∙◌}
 use Rattle.mode.specs.Edition.{Edition}
 use Rattle.mode.specs.Nonce.{nonce_block}
-use Rattle.mode.proofs.Edition.{is_first, is_third}
+use Rattle.mode.proofs.Editions.{is_first, is_third}
 use borrow.Author.Rules.{rules}
 use Rattle.associated.proofs.nonce.nonce_block.Statement.{statement}
 use Rattle.associated.proofs.nonce.nonce_block.Tie as tie

@@ -4,7 +4,7 @@ use lib.Dec.{ltb}
 use Rattle.mode.specs.Form.{form_of}
 use Rattle.mode.specs.Edition.{Edition}
 use Rattle.mode.specs.Data.{data_final}
-use Rattle.mode.proofs.Edition.{is_first, is_third}
+use Rattle.mode.proofs.Editions.{is_first, is_third}
 use borrow.Author.Rules.{rules}
 use Rattle.associated.proofs.parallel.data_mask.Statement.{statement}
 use Rattle.associated.proofs.parallel.data_mask.Tie as tie

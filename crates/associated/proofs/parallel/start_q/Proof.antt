@@ -3,7 +3,7 @@ use mathlib.Core.Path.{sym, ap, ◌∙◌}
 use Rattle.block.specs.Block.{double}
 use Rattle.mode.specs.Edition.{Edition}
 use Rattle.mode.specs.Data.{start_q}
-use Rattle.mode.proofs.Edition.{is_first, is_third}
+use Rattle.mode.proofs.Editions.{is_first, is_third}
 use borrow.Author.Rules.{rules}
 use Rattle.associated.proofs.parallel.start_q.Statement.{statement}
 use Rattle.associated.proofs.parallel.start_q.Tie as tie

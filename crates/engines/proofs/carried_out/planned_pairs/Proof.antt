@@ -10,8 +10,8 @@ use Rattle.lists.specs.Lay.{lay}
 use Rattle.aes.specs.Cipher.{cipher}
 use Rattle.block.specs.Wide.{bytes_of}
 use Rattle.block.proofs.Words.{length-bytes}
-use Rattle.mode.specs.Form.{parallel}
-use Rattle.mode.specs.Edition.{v3}
+use Rattle.mode.specs.Form.{Parallel}
+use Rattle.mode.specs.Edition.{V3}
 use Rattle.mode.specs.Masks.{third}
 use Rattle.mode.specs.Message.{pairs_of, pairs}
 use Rattle.mode.proofs.Counts.{pairs-within}
@@ -96,7 +96,7 @@ returns c =
     let in-m = pairs-within (length m) in (
       h.invariant.1
           ∙ ap (written (pair_of E k m) v.out.now (pair_at plan)) all
-          ∙ ordered_pairs E (is_cipher v.nr v.w.now) k (edition_masks (v3 parallel) (bytes_of first.result) (length-bytes first.result)) m v.out.now n in-m
+          ∙ ordered_pairs E (is_cipher v.nr v.w.now) k (edition_masks (V3 Parallel) (bytes_of first.result) (length-bytes first.result)) m v.out.now n in-m
           (omega (arith, in-m, start.requires.1.1.1)) (pair_at plan) (entries plan) a.no_other (λ i b. ((a.every i b).entry, (a.every i b).within, (a.every i b).for_it))
           ∙ ap (λ (u : List ℕ). lay 0 (pairs E (third u) n m) v.out.now) first.ensures,
       omega (arith, h.invariant.3, all, as_many n plan a, length-pairs_inputs E (third v.u) n m),

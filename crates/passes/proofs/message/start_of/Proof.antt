@@ -14,7 +14,7 @@ use Rattle.block.proofs.Doubling.{length-double, length-triple}
 use Rattle.block.proofs.Linear.{Bytes, bytes-double, double-xor}
 use Rattle.mode.specs.Edition.{Edition}
 use Rattle.mode.specs.Masks.{Masks, doubles, third, first, masks_of}
-use Rattle.mode.proofs.Edition.{is_first, is_third}
+use Rattle.mode.proofs.Editions.{is_first, is_third}
 use Rattle.mode.proofs.Data.{length-doubles}
 use Rattle.pairs.specs.Carries.{Carries}
 use Rattle.pairs.proofs.Carried.{doubles_steps}

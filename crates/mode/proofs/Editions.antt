@@ -2,27 +2,27 @@
 use mathlib.Core.Path.{◌≡◌, refl, ap}
 use mathlib.Core.List.{List}
 use Prim.Native.Nat.{ℕ, zero, suc}
-use Rattle.mode.specs.Form.{parallel, serial, form_of}
-use Rattle.mode.specs.Edition.{v1, v3, edition_of, form_in}
+use Rattle.mode.specs.Form.{Parallel, Serial, form_of}
+use Rattle.mode.specs.Edition.{V1, V3, edition_of, form_in}
 use Rattle.mode.specs.Masks.{third, first, masks_of}
 
-pub is_parallel : (n : ℕ) → n ≡ 0 → form_of n ≡ parallel
+pub is_parallel : (n : ℕ) → n ≡ 0 → form_of n ≡ Parallel
 is_parallel n h = ap form_of h
 
-pub is_serial : (n : ℕ) → (n ≡ 0 → ⊥) → form_of n ≡ serial
+pub is_serial : (n : ℕ) → (n ≡ 0 → ⊥) → form_of n ≡ Serial
 is_serial zero h = absurd (h refl)
 is_serial (suc n) h = refl
 
-pub is_first : (e form : ℕ) → e ≡ 1 → edition_of e form ≡ v1
+pub is_first : (e form : ℕ) → e ≡ 1 → edition_of e form ≡ V1
 is_first e form h = ap (λ (i : ℕ). edition_of i form) h
 
-pub is_third : (e form : ℕ) → (e ≡ 1 → ⊥) → edition_of e form ≡ v3 (form_of form)
+pub is_third : (e form : ℕ) → (e ≡ 1 → ⊥) → edition_of e form ≡ V3 (form_of form)
 is_third zero form h = refl
 is_third (suc zero) form h = absurd (h refl)
 is_third (suc (suc n)) form h = refl
 
 -- form 0 is the parallel one, whatever the edition
-pub form_0 : (e : ℕ) → form_in (edition_of e 0) ≡ parallel
+pub form_0 : (e : ℕ) → form_in (edition_of e 0) ≡ Parallel
 form_0 zero = refl
 form_0 (suc zero) = refl
 form_0 (suc (suc n)) = refl
