@@ -3,7 +3,9 @@
 
 mod cipher;
 mod column;
+mod ran;
 mod under;
 
 pub use cipher::encrypt;
+pub use ran::Ran;
 pub use under::Cipher;
