@@ -2,8 +2,9 @@
 ghost use Rattle.std.specs.Prelude.{◌≡◌, List, ℕ, ◌*◌, ◌≤◌, ltb, length};
 ghost use Rattle.tables.specs.Joined.{joined};
 ghost use Rattle.aes.specs.Cipher.{cipher};
-ghost use Rattle.mode.specs.Form.{Form};
-ghost use Rattle.mode.specs.Edition.{V1, V3, edition_of};
+ghost use Rattle.mode.specs.declared.edition.Form.{Form};
+ghost use Rattle.mode.specs.Edition.{edition_of};
+ghost use Rattle.mode.specs.declared.edition.Edition.TheVariants.{V1, V3};
 ghost use Rattle.mode.specs.Masks.{doubles};
 ghost use Rattle.mode.specs.Data.{start_q, data_final, data_sum, sum_inputs, parallel_pass, ta as ta_of, ta_inputs};
 

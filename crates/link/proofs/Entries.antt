@@ -14,7 +14,8 @@ use Rattle.aes.specs.Cipher.{cipher}
 use Rattle.aes.specs.Expansion.{key_rounds, key_expansion, aes}
 use Rattle.aes.specs.Key.{expanded}
 use Rattle.aes.proofs.Keys.{Usable, usable}
-use Rattle.mode.specs.Edition.{Edition, edition_of}
+use Rattle.mode.specs.Edition.{edition_of}
+use Rattle.mode.specs.declared.edition.Edition.{Edition}
 use Rattle.mode.specs.Masks.{IsCipher}
 use Rattle.mode.specs.Data.{first_q, q_inputs, with_data}
 use Rattle.mode.specs.Sealing.{data_tag, otr_from, from_inputs}

@@ -4,7 +4,7 @@ use mathlib.Core.List.{List}
 use Prim.Native.Nat.{ℕ}
 use lib.ListN.{length}
 use Rattle.aes.specs.Cipher.{cipher}
-use Rattle.mode.specs.Edition.{Edition}
+use Rattle.mode.specs.declared.edition.Edition.{Edition}
 use Rattle.mode.specs.Masks.{IsCipher}
 use Rattle.mode.specs.Sealing.{data_tag}
 use Rattle.mode.proofs.Data.{ciphered_data_tag}

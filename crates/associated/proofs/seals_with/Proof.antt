@@ -7,7 +7,7 @@ use lib.ListN.{length}
 use Rattle.lists.specs.Xor.{xor}
 use Rattle.aes.specs.Cipher.{cipher}
 use Rattle.block.specs.Block.{double}
-use Rattle.mode.specs.Form.{Form}
+use Rattle.mode.specs.declared.edition.Form.{Form}
 use Rattle.mode.specs.Edition.{edition_of}
 use Rattle.mode.specs.Nonce.{nonce_block}
 use Rattle.mode.specs.Sealing.{first_mask, into_tag, data_tag, call_inputs}

@@ -4,7 +4,9 @@ use mathlib.Core.List.{List}
 use Prim.Native.Nat.{ℕ}
 use lib.ListN.{length}
 use Rattle.aes.specs.Cipher.{cipher}
-use Rattle.mode.specs.Edition.{Edition, V3, edition_of}
+use Rattle.mode.specs.Edition.{edition_of}
+use Rattle.mode.specs.declared.edition.Edition.{Edition}
+use Rattle.mode.specs.declared.edition.Edition.TheVariants.{V3}
 use Rattle.mode.specs.Data.{data_pass, ta, ta_inputs}
 use Rattle.mode.proofs.Editions.{is_parallel, is_serial, is_first, is_third}
 use borrow.Author.Rules.{rules}

@@ -1,6 +1,6 @@
 -- `associated::nonce::nonce_block` meets its contract, edition by edition. Assumes nothing.
 use mathlib.Core.Path.{sym, ap, ◌∙◌}
-use Rattle.mode.specs.Edition.{Edition}
+use Rattle.mode.specs.declared.edition.Edition.{Edition}
 use Rattle.mode.specs.Nonce.{nonce_block}
 use Rattle.mode.proofs.Editions.{is_first, is_third}
 use borrow.Author.Rules.{rules}

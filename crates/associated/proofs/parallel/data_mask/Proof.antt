@@ -2,7 +2,7 @@
 use mathlib.Core.Path.{sym, ap, ◌∙◌}
 use lib.Dec.{ltb}
 use Rattle.mode.specs.Form.{form_of}
-use Rattle.mode.specs.Edition.{Edition}
+use Rattle.mode.specs.declared.edition.Edition.{Edition}
 use Rattle.mode.specs.Data.{data_final}
 use Rattle.mode.proofs.Editions.{is_first, is_third}
 use borrow.Author.Rules.{rules}

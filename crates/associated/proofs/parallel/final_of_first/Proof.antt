@@ -3,7 +3,7 @@ use mathlib.Core.Path.{sym, ap, ◌∙◌}
 use native.Mathlib.Omega.{arith}
 use borrow.Author.Tests.{lt-ltb, le-ltb}
 use Rattle.lists.specs.Xor.{xor}
-use Rattle.mode.specs.Edition.{V1}
+use Rattle.mode.specs.declared.edition.Edition.TheVariants.{V1}
 use Rattle.mode.specs.Data.{data_final}
 use borrow.Author.Rules.{rules}
 use Rattle.associated.proofs.parallel.final_of_first.Statement.{statement}

@@ -1,7 +1,7 @@
 -- `associated::parallel::start_q` meets its contract. Assumes nothing.
 use mathlib.Core.Path.{sym, ap, ◌∙◌}
 use Rattle.block.specs.Block.{double}
-use Rattle.mode.specs.Edition.{Edition}
+use Rattle.mode.specs.declared.edition.Edition.{Edition}
 use Rattle.mode.specs.Data.{start_q}
 use Rattle.mode.proofs.Editions.{is_first, is_third}
 use borrow.Author.Rules.{rules}
