@@ -9,7 +9,8 @@ use Rattle.lists.specs.Zeros.{zeros}
 use Rattle.lists.proofs.Laid.{take-lay, lay_over}
 use Rattle.lists.proofs.Zeros.{length-zeros}
 use Rattle.aes.specs.Expansion.{aes}
-use Rattle.mode.specs.Edition.{Edition, edition_of}
+use Rattle.mode.specs.Edition.{edition_of}
+use Rattle.mode.specs.declared.edition.Edition.{Edition}
 use Rattle.mode.specs.Data.{q_inputs, with_data}
 use Rattle.mode.specs.Sealing.{from_inputs}
 use Rattle.mode.specs.Opening.{Opened, accepted, refused, Allowed}

@@ -9,8 +9,10 @@ use native.Mathlib.Omega.{arith}
 use lib.ListN.{length, length-append}
 use Rattle.lists.specs.Zeros.{zeros}
 use Rattle.aes.specs.Expansion.{aes}
-use Rattle.mode.specs.Form.{Parallel, Serial}
-use Rattle.mode.specs.Edition.{Edition, V1, V3, edition_of}
+use Rattle.mode.specs.declared.edition.Form.TheVariants.{Parallel, Serial}
+use Rattle.mode.specs.Edition.{edition_of}
+use Rattle.mode.specs.declared.edition.Edition.{Edition}
+use Rattle.mode.specs.declared.edition.Edition.TheVariants.{V1, V3}
 use Rattle.mode.specs.Data.{q_inputs, with_data}
 use Rattle.mode.specs.Sealing.{from_inputs, otr_inputs}
 use Rattle.mode.specs.Opening.{accepted, refused}

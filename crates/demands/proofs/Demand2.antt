@@ -10,7 +10,8 @@ use lib.ListN.{length}
 use Rattle.lists.specs.Lay.{lay}
 use Rattle.lists.specs.Zeros.{zeros}
 use Rattle.aes.specs.Expansion.{aes}
-use Rattle.mode.specs.Edition.{Edition, edition_of}
+use Rattle.mode.specs.Edition.{edition_of}
+use Rattle.mode.specs.declared.edition.Edition.{Edition}
 use Rattle.mode.specs.Masks.{IsCipher}
 use Rattle.mode.specs.Sealing.{data_tag, otr_from, otr}
 use Rattle.mode.specs.Opening.{accepted, refused}

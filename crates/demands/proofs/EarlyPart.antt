@@ -9,7 +9,8 @@ use lib.ListN.{length, drop}
 use lib.Seq.{take-append-le}
 use Rattle.lists.specs.Zeros.{zeros}
 use Rattle.aes.specs.Expansion.{aes}
-use Rattle.mode.specs.Edition.{Edition, edition_of}
+use Rattle.mode.specs.Edition.{edition_of}
+use Rattle.mode.specs.declared.edition.Edition.{Edition}
 use Rattle.mode.specs.Masks.{Masks, IsCipher}
 use Rattle.mode.specs.Sealing.{sealed, data_tag, masks, added, otr_from}
 use Rattle.mode.specs.EarlyPart.{early, Longer}

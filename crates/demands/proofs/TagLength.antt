@@ -11,7 +11,7 @@ use lib.Seq.{take_at, take-append-le}
 use Rattle.lists.specs.Lay.{lay}
 use Rattle.lists.specs.Zeros.{zeros}
 use Rattle.aes.specs.Expansion.{aes}
-use Rattle.mode.specs.Edition.{V1}
+use Rattle.mode.specs.declared.edition.Edition.TheVariants.{V1}
 use Rattle.mode.specs.Masks.{IsCipher}
 use Rattle.mode.specs.Sealing.{data_tag, otr_from, otr}
 use Rattle.mode.proofs.TagLength.{first_cut}

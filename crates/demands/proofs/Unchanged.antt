@@ -14,8 +14,9 @@ use borrow.Author.Tests.{le-leb}
 use Rattle.lists.specs.Lay.{lay}
 use Rattle.lists.specs.Zeros.{zeros}
 use Rattle.aes.specs.Expansion.{aes}
-use Rattle.mode.specs.Form.{Parallel, form_of}
-use Rattle.mode.specs.Edition.{V3}
+use Rattle.mode.specs.Form.{form_of}
+use Rattle.mode.specs.declared.edition.Form.TheVariants.{Parallel}
+use Rattle.mode.specs.declared.edition.Edition.TheVariants.{V3}
 use Rattle.mode.specs.Masks.{third}
 use Rattle.mode.specs.Nonce.{format}
 use Rattle.mode.specs.Sealing.{sealed, first_mask, into_tag, data_tag, otr}

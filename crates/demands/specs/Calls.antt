@@ -1,7 +1,8 @@
 -- The words that the demands are stated in.
 use Rattle.std.specs.Prelude.{◌≡◌, Bool, true, false, ◌||◌, ◌⊎◌, List, [], ◌∷◌, ℕ, zero, suc, ◌+◌, ◌-◌, ◌/◌, ◌≤◌, eqb, leb, length}
-use Rattle.mode.specs.Form.{Parallel, Serial}
-use Rattle.mode.specs.Edition.{Edition, V1, V3}
+use Rattle.mode.specs.declared.edition.Form.TheVariants.{Parallel, Serial}
+use Rattle.mode.specs.declared.edition.Edition.{Edition}
+use Rattle.mode.specs.declared.edition.Edition.TheVariants.{V1, V3}
 use Rattle.link.specs.Checks.{from_to, last_form}
 use Rattle.link.specs.declared.prepared.Prepared.{Prepared}
 

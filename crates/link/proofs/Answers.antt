@@ -3,32 +3,48 @@ use mathlib.Core.Path.{◌≡◌, refl, sym, ap, ap₂, ◌∙◌}
 use mathlib.Core.Logic.{◌⊎◌, inl, inr}
 use Prim.Native.Nat.{ℕ, ◌≤◌}
 use native.Mathlib.Omega.{arith}
-use Rattle.link.specs.Answers.{number_of, length_of, runs_of, answer_of}
-use Rattle.link.specs.declared.answer.Answer.{Answer}
-use Rattle.link.specs.declared.answer.Answer.TheVariants.{Done, Key, Nonce, Tag, Data, Length, Room, Forged, Form, Ended, Edition, SameKey, Plan}
+use Rattle.std.specs.Prelude.{Ok, Err}
+use Rattle.link.specs.Answers.{Answer, done, number_of, length_of, runs_of, answer_of}
+use Rattle.link.specs.declared.answer.Refusal.{Refusal}
+use Rattle.link.specs.declared.answer.Refusal.TheVariants.{Key, Nonce, Tag, Data, Length, Room, Forged, Form, Ended, Edition, SameKey, Plan}
+
+-- no refusal has the number of what is done
+pub refused : (r : Refusal) → number_of (Err r) ≡ 0 → ⊥
+refused Key z = omega arith
+refused Nonce z = omega arith
+refused Tag z = omega arith
+refused Data z = omega arith
+refused Length z = omega arith
+refused Room z = omega arith
+refused (Forged k) z = omega arith
+refused Form z = omega arith
+refused Ended z = omega arith
+refused Edition z = omega arith
+refused SameKey z = omega arith
+refused Plan z = omega arith
 
 -- done with n bytes after k runs; forged after k runs; for a plan; or another refusal, which has a number of at most 11, no length and no
 -- runs, and is the answer that its number stands for
 pub data Answered (r : Answer) : Type 0 where
-  done : (n k : ℕ) → r ≡ Done n k → Answered r
-  forged : (k : ℕ) → r ≡ Forged k → Answered r
-  planned : r ≡ Plan → Answered r
+  finished : (n k : ℕ) → r ≡ done n k → Answered r
+  forged : (k : ℕ) → r ≡ Err (Forged k) → Answered r
+  planned : r ≡ Err Plan → Answered r
   refusal : number_of r ≤ 11 → length_of r ≡ 0 → runs_of r ≡ 0 → ((n k : ℕ) → r ≡ answer_of (number_of r) n k) → Answered r
 
 pub answered : (r : Answer) → Answered r
-answered (Done n k) = done n k refl
-answered Key = refusal (omega arith) refl refl (λ n k. refl)
-answered Nonce = refusal (omega arith) refl refl (λ n k. refl)
-answered Tag = refusal (omega arith) refl refl (λ n k. refl)
-answered Data = refusal (omega arith) refl refl (λ n k. refl)
-answered Length = refusal (omega arith) refl refl (λ n k. refl)
-answered Room = refusal (omega arith) refl refl (λ n k. refl)
-answered (Forged k) = forged k refl
-answered Form = refusal (omega arith) refl refl (λ n k. refl)
-answered Ended = refusal (omega arith) refl refl (λ n k. refl)
-answered Edition = refusal (omega arith) refl refl (λ n k. refl)
-answered SameKey = refusal (omega arith) refl refl (λ n k. refl)
-answered Plan = planned refl
+answered (Ok d) = finished d.length d.runs refl
+answered (Err Key) = refusal (omega arith) refl refl (λ n k. refl)
+answered (Err Nonce) = refusal (omega arith) refl refl (λ n k. refl)
+answered (Err Tag) = refusal (omega arith) refl refl (λ n k. refl)
+answered (Err Data) = refusal (omega arith) refl refl (λ n k. refl)
+answered (Err Length) = refusal (omega arith) refl refl (λ n k. refl)
+answered (Err Room) = refusal (omega arith) refl refl (λ n k. refl)
+answered (Err (Forged k)) = forged k refl
+answered (Err Form) = refusal (omega arith) refl refl (λ n k. refl)
+answered (Err Ended) = refusal (omega arith) refl refl (λ n k. refl)
+answered (Err Edition) = refusal (omega arith) refl refl (λ n k. refl)
+answered (Err SameKey) = refusal (omega arith) refl refl (λ n k. refl)
+answered (Err Plan) = planned refl
 
 module _ (r : Answer) where
   -- no case but 0 and 7 carries runs
@@ -36,7 +52,7 @@ module _ (r : Answer) where
   no_runs not0 not7 = go (answered r)
     where
       go : Answered r → runs_of r ≡ 0
-      go (done n k e) = absurd (not0 (ap number_of e))
+      go (finished n k e) = absurd (not0 (ap number_of e))
       go (forged k e) = absurd (not7 (ap number_of e))
       go (planned e) = ap runs_of e
       go (refusal most long runs stands) = runs
@@ -49,9 +65,9 @@ module _ (r : Answer) where
       of x e = ap (λ (y : Answer). answer_of (number_of y) n k) (sym e)
 
       go : Answered r → r ≡ answer_of (number_of r) n k
-      go (done i j e) = e ∙ ap₂ Done (sym (ap length_of e) ∙ long (ap number_of e)) (sym (ap runs_of e) ∙ ran (inl (ap number_of e))) ∙ of (Done i j) e
-      go (forged j e) = e ∙ ap Forged (sym (ap runs_of e) ∙ ran (inr (ap number_of e))) ∙ of (Forged j) e
-      go (planned e) = e ∙ of Plan e
+      go (finished i j e) = e ∙ ap₂ done (sym (ap length_of e) ∙ long (ap number_of e)) (sym (ap runs_of e) ∙ ran (inl (ap number_of e))) ∙ of (done i j) e
+      go (forged j e) = e ∙ ap (λ (x : ℕ). Err (Forged x)) (sym (ap runs_of e) ∙ ran (inr (ap number_of e))) ∙ of (Err (Forged j)) e
+      go (planned e) = e ∙ of (Err Plan) e
       go (refusal most none runs stands) = stands n k
 
   -- so it is its number, its length and its runs

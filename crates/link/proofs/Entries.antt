@@ -3,7 +3,7 @@ use mathlib.Core.Path.{◌≡◌, refl, sym, ap, ap₂, subst, fun_ext, ◌∙�
 use mathlib.Core.Bool.{Bool, true, false, ◌||◌}
 use mathlib.Core.Logic.{◌⊎◌, inl, inr}
 use mathlib.Core.List.{List}
-use Prim.Native.Nat.{ℕ, ◌+◌, ◌≤◌}
+use Prim.Native.Nat.{ℕ, ◌+◌, ◌-◌, ◌≤◌}
 use native.Mathlib.Omega.{arith}
 use lib.Dec.{eqb}
 use lib.ListN.{length}
@@ -14,59 +14,60 @@ use Rattle.aes.specs.Cipher.{cipher}
 use Rattle.aes.specs.Expansion.{key_rounds, key_expansion, aes}
 use Rattle.aes.specs.Key.{expanded}
 use Rattle.aes.proofs.Keys.{Usable, usable}
-use Rattle.mode.specs.Edition.{Edition, edition_of}
+use Rattle.mode.specs.Edition.{edition_of}
+use Rattle.mode.specs.declared.edition.Edition.{Edition}
 use Rattle.mode.specs.Masks.{IsCipher}
 use Rattle.mode.specs.Data.{first_q, q_inputs, with_data}
 use Rattle.mode.specs.Sealing.{data_tag, otr_from, from_inputs}
 use Rattle.mode.specs.Opening.{Opened, accepted, refused, Allowed}
-use Rattle.mode.specs.Undoing.{found_from_inputs}
+use Rattle.mode.specs.Undoing.{found_from, found_from_inputs}
+use Rattle.mode.proofs.Otr.{otr_opens}
 use Rattle.mode.proofs.Own.{own_otr, own_runs, own_found_runs}
 use Rattle.passes.specs.Shown.{flag}
 use Rattle.pairs.proofs.Cipher.{is_cipher, length-ta}
-use Rattle.link.specs.Answers.{number_of}
-use Rattle.link.specs.Checks.{Check, pass, stop, known_key, known_rounds, call_check, as_answer}
+use Rattle.std.specs.Prelude.{Ok, Err}
+use Rattle.link.specs.Answers.{Answer, done}
+use Rattle.link.specs.Checks.{Check, known_key, known_rounds, call_check, seal_next, open_next}
 use Rattle.link.specs.Prepared.{cipher_of, record_of, own_of}
 use Rattle.link.specs.Promises.{sealing, seal_runs, open_runs, SealsBy, opened_as, OpensBy, sealing_with, seal_runs_with, open_runs_with}
-use Rattle.link.specs.declared.answer.Answer.{Answer}
-use Rattle.link.specs.declared.answer.Answer.TheVariants.{Done, Forged}
+use Rattle.link.specs.declared.answer.Refusal.{Refusal}
+use Rattle.link.specs.declared.answer.Refusal.TheVariants.{Forged}
 use Rattle.link.specs.declared.prepared.Own.{Own}
 use Rattle.link.specs.declared.prepared.Prepared.{Prepared}
 use Rattle.link.proofs.Known.{size_known, known_rounds_lem}
-use Rattle.link.proofs.Verdicts.{Verdict, went_on}
+use Rattle.link.proofs.Verdicts.{sure, SealFits, OpenFits, seal_verdict, open_verdict}
 
 -- ---- the checks, as an entry point goes by them: whether the key is known was looked at before, and k is what that gave
-seal_stopped : (c : Check) (j : ℕ) (bytes out : List ℕ) (r : Answer) → r ≡ as_answer c → (number_of r ≡ 0 → ⊥) → SealsBy c j bytes out r out
-seal_stopped (pass i) j bytes out r e z = absurd (z (ap number_of e))
-seal_stopped (stop x) j bytes out r e z = (e, refl)
+module _ (edition form : ℕ) {k known : Bool} (same : k ≡ known) (nonce t ad : ℕ) where
+  looked_at : (next : Check) → call_check edition form k nonce t ad next ≡ call_check edition form known nonce t ad next
+  looked_at next = ap (λ (b : Bool). call_check edition form b nonce t ad next) same
 
-open_stopped : (c : Check) (j : ℕ) (seal : List ℕ → List ℕ) (s out : List ℕ) (r : Answer) → r ≡ as_answer c → (number_of r ≡ 0 → ⊥) → OpensBy c j seal s out r out
-open_stopped (pass i) j seal s out r e z = absurd (z (ap number_of e))
-open_stopped (stop x) j seal s out r e z = (e, refl)
+  -- where they stop, the call stops with their refusal, and the buffer stays
+  pub seal_refused : (next : Check) (r : Refusal) → Err r ≡ call_check edition form k nonce t ad next
+      → (j : ℕ) (bytes out : List ℕ) → SealsBy (call_check edition form known nonce t ad next) j bytes out (Err r) out
+  seal_refused next r e j bytes out = subst (λ (c : Check). SealsBy c j bytes out (Err r) out) (e ∙ looked_at next) (refl, refl)
 
-module _ (edition form : ℕ) (k known : Bool) (same : k ≡ known) (nonce t ad : ℕ) (next : Check) (r : Answer) (is : r ≡ as_answer (call_check edition form k nonce t ad next))
-    (n : ℕ) (number : n ≡ number_of r) where
-  answer_is : r ≡ as_answer (call_check edition form known nonce t ad next)
-  answer_is = is ∙ ap (λ (b : Bool). as_answer (call_check edition form b nonce t ad next)) same
+  pub open_refused : (next : Check) (r : Refusal) → Err r ≡ call_check edition form k nonce t ad next
+      → (j : ℕ) (seal : List ℕ → List ℕ) (s out : List ℕ) → OpensBy (call_check edition form known nonce t ad next) j seal s out (Err r) out
+  open_refused next r e j seal s out = subst (λ (c : Check). OpensBy c j seal s out (Err r) out) (e ∙ looked_at next) (refl, refl)
 
-  -- an answer that is not done: the call stops with it, and the buffer stays
-  pub seal_refused : (n ≡ 0 → ⊥) → (j : ℕ) (bytes out : List ℕ) → SealsBy (call_check edition form known nonce t ad next) j bytes out r out
-  seal_refused z j bytes out = seal_stopped (call_check edition form known nonce t ad next) j bytes out r answer_is (λ h. z (number ∙ h))
+  -- where they pass, what they make sure of is known
+  pub seal_admitted : (m o n : ℕ) → Ok n ≡ call_check edition form k nonce t ad (seal_next t m o)
+      → SealFits edition form known nonce t ad m o × (call_check edition form known nonce t ad (seal_next t m o) ≡ Ok (m + t))
+  seal_admitted m o n e = sure (seal_verdict edition form known nonce t ad m o) n (sym (e ∙ looked_at (seal_next t m o)))
 
-  pub open_refused : (n ≡ 0 → ⊥) → (j : ℕ) (seal : List ℕ → List ℕ) (s out : List ℕ) → OpensBy (call_check edition form known nonce t ad next) j seal s out r out
-  open_refused z j seal s out = open_stopped (call_check edition form known nonce t ad next) j seal s out r answer_is (λ h. z (number ∙ h))
-
-  -- one that is done: they have passed, and what they make sure of is known
-  pub admitted : {P : Type 0} {i : ℕ} → Verdict P i (call_check edition form known nonce t ad next) → n ≡ 0 → P × (call_check edition form known nonce t ad next ≡ pass i)
-  admitted v z = went_on v r answer_is (sym number ∙ z)
+  pub open_admitted : (s o n : ℕ) → Ok n ≡ call_check edition form k nonce t ad (open_next t s o)
+      → OpenFits edition form known nonce t ad s o × (call_check edition form known nonce t ad (open_next t s o) ≡ Ok (s - t))
+  open_admitted s o n e = sure (open_verdict edition form known nonce t ad s o) n (sym (e ∙ looked_at (open_next t s o)))
 
 -- what the checks came to, and the runs and the bytes by other names
-pub come_to_seal : (c : Check) (i : ℕ) → c ≡ pass i → (j k : ℕ) (bytes bytes' out : List ℕ) (r : Answer) (after : List ℕ)
-    → j ≡ k → bytes ≡ bytes' → SealsBy (pass i) j bytes out r after → SealsBy c k bytes' out r after
+pub come_to_seal : (c : Check) (i : ℕ) → c ≡ Ok i → (j k : ℕ) (bytes bytes' out : List ℕ) (r : Answer) (after : List ℕ)
+    → j ≡ k → bytes ≡ bytes' → SealsBy (Ok i) j bytes out r after → SealsBy c k bytes' out r after
 come_to_seal c i come j k bytes bytes' out r after runs same p =
-    subst (λ (x : Check). SealsBy x k bytes' out r after) (sym come) (p.0 ∙ ap (Done i) runs, p.1 ∙ ap (λ (b : List ℕ). lay 0 b out) same)
+    subst (λ (x : Check). SealsBy x k bytes' out r after) (sym come) (p.0 ∙ ap (done i) runs, p.1 ∙ ap (λ (b : List ℕ). lay 0 b out) same)
 
-pub come_to_open : (c : Check) (i : ℕ) → c ≡ pass i → (j k : ℕ) (seal seal' : List ℕ → List ℕ) (s out : List ℕ) (r : Answer) (after : List ℕ)
-    → j ≡ k → seal ≡ seal' → OpensBy (pass i) j seal s out r after → OpensBy c k seal' s out r after
+pub come_to_open : (c : Check) (i : ℕ) → c ≡ Ok i → (j k : ℕ) (seal seal' : List ℕ → List ℕ) (s out : List ℕ) (r : Answer) (after : List ℕ)
+    → j ≡ k → seal ≡ seal' → OpensBy (Ok i) j seal s out r after → OpensBy c k seal' s out r after
 come_to_open c i come j k seal seal' s out r after runs same (o, a, is, b) =
     subst (λ (x : Check). OpensBy x k seal' s out r after) (sym come)
     (o, subst (λ (f : List ℕ → List ℕ). Allowed f s o) same a, is ∙ ap (λ (x : ℕ). opened_as i x o) runs, b)
@@ -126,15 +127,15 @@ module _ (key : List ℕ) (known : known_key (length key) ≡ true) where
     runs_of : o.runs ≡ length (q_inputs (with_data ad))
     runs_of = ap (λ (x : Own). x.runs) is
 
-    pub own_seals : (c : Check) (i : ℕ) → c ≡ pass i → (m out : List ℕ) (r : Answer) (after : List ℕ)
-        → SealsBy (pass i) (o.runs + seal_runs_with edition form o.key nonce ad t m) (sealing_with edition form o.key nonce ad t m) out r after
+    pub own_seals : (c : Check) (i : ℕ) → c ≡ Ok i → (m out : List ℕ) (r : Answer) (after : List ℕ)
+        → SealsBy (Ok i) (o.runs + seal_runs_with edition form o.key nonce ad t m) (sealing_with edition form o.key nonce ad t m) out r after
         → SealsBy c (seal_runs edition form key nonce ad t m) (sealing edition form key nonce ad t m) out r after
     own_seals c i come m out r after p =
         let runs_are = ap₂ ◌+◌ runs_of (under_key (λ E q. length (from_inputs E q (edition_of edition form) nonce ad t m))) ∙ own_runs (aes key) (edition_of edition form) nonce t ad m in
         come_to_seal c i come _ _ _ _ out r after runs_are (ap (λ (seal : List ℕ → List ℕ). seal m) sealing_is) p
 
-    pub own_opens : (c : Check) (i : ℕ) → c ≡ pass i → (s out : List ℕ) (r : Answer) (after : List ℕ)
-        → OpensBy (pass i) (o.runs + open_runs_with edition form o.key nonce ad t s) (sealing_with edition form o.key nonce ad t) s out r after
+    pub own_opens : (c : Check) (i : ℕ) → c ≡ Ok i → (s out : List ℕ) (r : Answer) (after : List ℕ)
+        → OpensBy (Ok i) (o.runs + open_runs_with edition form o.key nonce ad t s) (sealing_with edition form o.key nonce ad t) s out r after
         → OpensBy c (open_runs edition form key nonce ad t s) (sealing edition form key nonce ad t) s out r after
     own_opens c i come s out r after p =
         let runs_are = ap₂ ◌+◌ runs_of (under_key (λ E q. length (found_from_inputs E q (edition_of edition form) nonce ad t s))) ∙ own_found_runs (aes key) (edition_of edition form) nonce t ad s in
@@ -149,11 +150,18 @@ pub aes_ta : (key : List ℕ) (f : Edition) (ad : List ℕ) → length (data_tag
 unfolding aes
 aes_ta key f ad = length-ta (key_rounds key) (key_expansion key) (aes key (zeros 16)) f ad
 
--- ---- the answer of opening, by the flag that the passes give
-pub flag_done : (n k : ℕ) (o : Opened) → flag o ≡ true → Done n k ≡ opened_as n k o
+-- ---- opening: what the passes find is what sealing allows, whatever the record p is
+pub found_allowed : (edition form : ℕ) (p : Prepared) (nonce ad : List ℕ) (t : ℕ) (s : List ℕ) → length nonce ≤ 15 → t ≤ 16 → t ≤ length s
+    → Allowed (sealing_with edition form p nonce ad t) s (found_from (cipher_of p) p.zero (edition_of edition form) nonce ad t s)
+found_allowed edition form p nonce ad t s nonces tags long =
+    let f = edition_of edition form in
+    otr_opens (cipher_of p) (is_cipher p.rounds p.words) p.zero f nonce ad t (length-ta p.rounds p.words p.zero f ad) nonces tags s long
+
+-- the answer, by the flag that the passes give
+pub flag_done : (n k : ℕ) (o : Opened) → flag o ≡ true → done n k ≡ opened_as n k o
 flag_done n k (accepted m) h = refl
 flag_done n k refused h = absurd (let z : ◌≡◌ {A = ℕ} 0 1 = cc in omega arith)
 
-pub flag_forged : (n k : ℕ) (o : Opened) → flag o ≡ false → Forged k ≡ opened_as n k o
+pub flag_forged : (n k : ℕ) (o : Opened) → flag o ≡ false → Err (Forged k) ≡ opened_as n k o
 flag_forged n k (accepted m) h = absurd (let z : ◌≡◌ {A = ℕ} 0 1 = cc in omega arith)
 flag_forged n k refused h = refl

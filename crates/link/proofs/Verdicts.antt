@@ -8,53 +8,46 @@ use native.Mathlib.Omega.{arith}
 use lib.Dec.{leb}
 use borrow.Author.Tests.{leb-true, le-leb}
 use Rattle.lists.specs.Lay.{lay}
-use Rattle.link.specs.Answers.{number_of}
-use Rattle.link.specs.Checks.{Check, pass, stop, from_to, unless, known_edition, last_form, call_check, seal_next, open_next, as_answer}
+use Rattle.std.specs.Prelude.{Result, Ok, Err}
+use Rattle.link.specs.Answers.{Answer, done, number_of}
+use Rattle.link.specs.Checks.{Check, from_to, unless, known_edition, last_form, call_check, seal_next, open_next}
 use Rattle.link.specs.Promises.{SealsBy}
-use Rattle.link.specs.declared.answer.Answer.{Answer}
-use Rattle.link.specs.declared.answer.Answer.TheVariants.{Done, Key, Nonce, Tag, Data, Length, Room, Form, Edition}
+use Rattle.link.specs.declared.answer.Refusal.{Refusal}
+use Rattle.link.specs.declared.answer.Refusal.TheVariants.{Key, Nonce, Tag, Data, Length, Room, Form, Edition}
+use Rattle.link.proofs.Answers.{refused}
 
--- the checks c come to n bytes with P known, or stop at a refusal
-pub data Verdict (P : Type 0) (n : ℕ) (c : Check) : Type 0 where
-  passes : P → c ≡ pass n → Verdict P n c
-  stops : (r : Answer) → (number_of r ≡ 0 → ⊥) → c ≡ stop r → Verdict P n c
+-- the checks c come to n with P known, or stop at a refusal
+pub data Verdict (P : Type 0) {A : Type 0} (n : A) (c : Result A Refusal) : Type 0 where
+  passes : P → c ≡ Ok n → Verdict P n c
+  stops : (r : Refusal) → c ≡ Err r → Verdict P n c
 
--- a check that passes does not stop; and where the checks pass, what they make sure of is known
-pub pass_or_stop : (n : ℕ) (x : Answer) → pass n ≡ stop x → ⊥
-pass_or_stop n x e = let z : ◌≡◌ {A = ℕ} 0 1 = cc in omega arith
-
-pub sure : {P : Type 0} {n : ℕ} {c : Check} → Verdict P n c → (i : ℕ) → c ≡ pass i → P
-sure (passes p e) i h = p
-sure (stops x z e) i h = absurd (pass_or_stop i x (sym h ∙ e))
-
--- an answer of the checks that is done: they have passed
-pub went_on : {P : Type 0} {i : ℕ} {c : Check} → Verdict P i c → (r : Answer) → r ≡ as_answer c → number_of r ≡ 0 → P × (c ≡ pass i)
-went_on (passes p e) r q z = (p, e)
-went_on (stops x y e) r q z = absurd (y (sym (ap (λ (c : Check). number_of (as_answer c)) e) ∙ sym (ap number_of q) ∙ z))
+-- where the checks pass, what they make sure of is known
+pub sure : {P A : Type 0} {n : A} {c : Result A Refusal} → Verdict P n c → (i : A) → c ≡ Ok i → P × (c ≡ Ok n)
+sure (passes p e) i h = (p, e)
+sure (stops x e) i h = absurd (cc)
 
 -- a sealing that is done: they have passed, and the bytes are laid
 pub sealing_done : {P : Type 0} {n : ℕ} {c : Check} → Verdict P n c → (k : ℕ) (bytes out : List ℕ) (r : Answer) (after : List ℕ)
-    → SealsBy c k bytes out r after → number_of r ≡ 0 → P × (r ≡ Done n k) × (after ≡ lay 0 bytes out)
+    → SealsBy c k bytes out r after → number_of r ≡ 0 → P × (r ≡ done n k) × (after ≡ lay 0 bytes out)
 sealing_done (passes p e) k bytes out r after h z =
     let q = subst (λ (c : Check). SealsBy c k bytes out r after) e h in
     (p, q.0, q.1)
-sealing_done (stops x y e) k bytes out r after h z =
+sealing_done (stops x e) k bytes out r after h z =
     let q = subst (λ (c : Check). SealsBy c k bytes out r after) e h in
-    absurd (y (sym (ap number_of q.0) ∙ z))
+    absurd (refused x (sym (ap number_of q.0) ∙ z))
 
 -- one check more in front
-pub checked : {P : Type 0} {n : ℕ} {c : Check} (b : Bool) (r : Answer) → (number_of r ≡ 0 → ⊥) → (b ≡ true → Verdict P n c) → Verdict P n (unless b r c)
-checked true r z f = f refl
-checked false r z f = stops r z refl
+pub checked : {P A : Type 0} {n : A} {c : Result A Refusal} (b : Bool) (r : Refusal) → (b ≡ true → Verdict P n c) → Verdict P n (unless b r c)
+checked true r f = f refl
+checked false r f = stops r refl
 
--- checks c with nothing after them, and d with next after them: both pass on, or both stop at the same refusal
-data Guard (next c d : Check) : Type 0 where
-  lets_by : c ≡ pass 0 → d ≡ next → Guard next c d
-  holds : (r : Answer) → (number_of r ≡ 0 → ⊥) → c ≡ stop r → d ≡ stop r → Guard next c d
+-- where the checks c stop, the checks d stop likewise; and so with one check more in front of both
+abbrev StopsWith : {A B : Type 0} → Result A Refusal → Result B Refusal → Type 0
+StopsWith c d = (r : Refusal) → c ≡ Err r → d ≡ Err r
 
-guarded : {next c d : Check} (b : Bool) (r : Answer) → (number_of r ≡ 0 → ⊥) → Guard next c d → Guard next (unless b r c) (unless b r d)
-guarded true r z g = g
-guarded false r z g = holds r z refl refl
+stopped : {A B : Type 0} {c : Result A Refusal} {d : Result B Refusal} (b : Bool) (x : Refusal) → StopsWith c d → StopsWith (unless b x c) (unless b x d)
+stopped true x f = f
+stopped false x f = λ r e. let same : x ≡ r = cc in ap Err same
 
 -- both halves of a range test
 pub and_true : (a b : Bool) → (a && b) ≡ true → (a ≡ true) × (b ≡ true)
@@ -87,40 +80,37 @@ OpenFits edition form k nonce t ad s o = Called edition form k nonce t ad × (t 
 
 module _ (edition form : ℕ) (k : Bool) (nonce t ad : ℕ) where
   -- whatever comes after them
-  pub then_verdict : (P : Type 0) (n : ℕ) (c : Check) → (Called edition form k nonce t ad → Verdict P n c) → Verdict P n (call_check edition form k nonce t ad c)
+  pub then_verdict : {A : Type 0} (P : Type 0) (n : A) (c : Result A Refusal) → (Called edition form k nonce t ad → Verdict P n c) → Verdict P n (call_check edition form k nonce t ad c)
   unfolding call_check
   then_verdict P n c f =
-      checked (known_edition edition) Edition (λ z. omega arith) λ e.
-      checked (leb form (last_form edition)) Form (λ z. omega arith) λ p.
-      checked k Key (λ z. omega arith) λ known.
-      checked (from_to 1 15 nonce) Nonce (λ z. omega arith) λ s.
-      checked (from_to 4 16 t) Tag (λ z. omega arith) λ g.
-      checked (leb ad 4096) Data (λ z. omega arith) λ a.
+      checked (known_edition edition) Edition λ e.
+      checked (leb form (last_form edition)) Form λ p.
+      checked k Key λ known.
+      checked (from_to 1 15 nonce) Nonce λ s.
+      checked (from_to 4 16 t) Tag λ g.
+      checked (leb ad 4096) Data λ a.
       f (record { editions = e; forms = leb-true form (last_form edition) p; known = known; nonces = within 1 15 nonce s; tags = within 4 16 t g; data_most = leb-true ad 4096 a })
 
-  pub call_verdict : Verdict (Called edition form k nonce t ad) 0 (call_check edition form k nonce t ad (pass 0))
-  call_verdict = then_verdict (Called edition form k nonce t ad) 0 (pass 0) (λ h. passes h refl)
-
-  call_passed : number_of (as_answer (call_check edition form k nonce t ad (pass 0))) ≡ 0 → Called edition form k nonce t ad
-  call_passed h = (went_on call_verdict (as_answer (call_check edition form k nonce t ad (pass 0))) refl h).0
+  pub call_verdict : Verdict (Called edition form k nonce t ad) (tt {0}) (call_check edition form k nonce t ad (Ok (tt {0})))
+  call_verdict = then_verdict (Called edition form k nonce t ad) (tt {0}) (Ok (tt {0})) (λ h. passes h refl)
 
   pub seal_verdict : (m o : ℕ) → Verdict (SealFits edition form k nonce t ad m o) (m + t) (call_check edition form k nonce t ad (seal_next t m o))
   seal_verdict m o =
       then_verdict (SealFits edition form k nonce t ad m o) (m + t) (seal_next t m o) λ h.
-      checked (leb m 16384) Length (λ z. omega arith) λ l.
-      checked (leb (m + t) o) Room (λ z. omega arith) λ r.
+      checked (leb m 16384) Length λ l.
+      checked (leb (m + t) o) Room λ r.
       passes (h, leb-true m 16384 l, leb-true (m + t) o r) refl
 
   pub open_verdict : (s o : ℕ) → Verdict (OpenFits edition form k nonce t ad s o) (s - t) (call_check edition form k nonce t ad (open_next t s o))
   open_verdict s o =
       then_verdict (OpenFits edition form k nonce t ad s o) (s - t) (open_next t s o) λ h.
-      checked (from_to t (16384 + t) s) Length (λ z. omega arith) λ l.
-      checked (leb (s - t) o) Room (λ z. omega arith) λ r.
+      checked (from_to t (16384 + t) s) Length λ l.
+      checked (leb (s - t) o) Room λ r.
       passes (h, (within t (16384 + t) s l).0, (within t (16384 + t) s l).1, leb-true (s - t) o r) refl
 
   -- ---- where all that they make sure of is so, they pass
   module _ (f : Called edition form k nonce t ad) where
-    pub lets_by_all : (next : Check) → call_check edition form k nonce t ad next ≡ next
+    pub lets_by_all : {A : Type 0} (next : Result A Refusal) → call_check edition form k nonce t ad next ≡ next
     unfolding call_check
     lets_by_all next =
         rw (
@@ -132,39 +122,30 @@ module _ (edition form : ℕ) (k : Bool) (nonce t ad : ℕ) where
           le-leb ad 4096 f.data_most,
         )
 
-    pub seal_passes : (m o : ℕ) → m ≤ 16384 → m + t ≤ o → call_check edition form k nonce t ad (seal_next t m o) ≡ pass (m + t)
+    pub seal_passes : (m o : ℕ) → m ≤ 16384 → m + t ≤ o → call_check edition form k nonce t ad (seal_next t m o) ≡ Ok (m + t)
     seal_passes m o p q = lets_by_all (seal_next t m o) ∙ rw (le-leb m 16384 p, le-leb (m + t) o q)
 
-    pub open_passes : (s o : ℕ) → t ≤ s → s ≤ 16384 + t → s - t ≤ o → call_check edition form k nonce t ad (open_next t s o) ≡ pass (s - t)
+    pub open_passes : (s o : ℕ) → t ≤ s → s ≤ 16384 + t → s - t ≤ o → call_check edition form k nonce t ad (open_next t s o) ≡ Ok (s - t)
     open_passes s o p q r = lets_by_all (open_next t s o) ∙ rw (in_range t (16384 + t) s p q, le-leb (s - t) o r)
 
-  -- ---- checks 10, 8 and 1 to 4 alone, as the code runs them: their answer, and its number
-  guard : (next : Check) → Guard next (call_check edition form k nonce t ad (pass 0)) (call_check edition form k nonce t ad next)
+  -- ---- checks 10, 8 and 1 to 4 alone, as the code runs them: where they stop, they stop whatever comes after them
+  pub stops_here : {A : Type 0} (next : Result A Refusal) (r : Refusal) → Err r ≡ call_check edition form k nonce t ad (Ok (tt {0}))
+      → Err r ≡ call_check edition form k nonce t ad next
   unfolding call_check
-  guard next =
-      guarded (known_edition edition) Edition (λ z. omega arith)
-      (guarded (leb form (last_form edition)) Form (λ z. omega arith)
-      (guarded k Key (λ z. omega arith)
-      (guarded (from_to 1 15 nonce) Nonce (λ z. omega arith)
-      (guarded (from_to 4 16 t) Tag (λ z. omega arith)
-      (guarded (leb ad 4096) Data (λ z. omega arith) (lets_by refl refl))))))
+  stops_here next r e =
+      sym
+      (stopped (known_edition edition) Edition
+      (stopped (leb form (last_form edition)) Form
+      (stopped k Key
+      (stopped (from_to 1 15 nonce) Nonce
+      (stopped (from_to 4 16 t) Tag
+      (stopped (leb ad 4096) Data (λ x h. absurd (cc))))))) r (sym e))
 
-  module _ (r : Answer) (is : r ≡ as_answer (call_check edition form k nonce t ad (pass 0))) (n : ℕ) (number : n ≡ number_of r) where
-    -- done: the lengths are within their limits, and what comes after them decides
-    pub called : n ≡ 0 → Called edition form k nonce t ad
-    called z = call_passed (sym (ap number_of is) ∙ sym number ∙ z)
+  -- and where they pass, what they make sure of is known
+  pub called : (u : Unit {0}) → Ok u ≡ call_check edition form k nonce t ad (Ok (tt {0})) → Called edition form k nonce t ad
+  called u e = (sure call_verdict u (sym e)).0
 
-    pub goes_on : n ≡ 0 → (next : Check) → call_check edition form k nonce t ad next ≡ next
-    goes_on z next = go (guard next)
-      where
-        go : Guard next (call_check edition form k nonce t ad (pass 0)) (call_check edition form k nonce t ad next) → call_check edition form k nonce t ad next ≡ next
-        go (lets_by e f) = f
-        go (holds x y e f) = absurd (y (sym (ap (λ (c : Check). number_of (as_answer c)) e) ∙ sym (ap number_of is) ∙ sym number ∙ z))
-
-    -- a refusal: the answer, whatever comes after them
-    pub stops_here : (n ≡ 0 → ⊥) → (next : Check) → r ≡ as_answer (call_check edition form k nonce t ad next)
-    stops_here z next = go (guard next)
-      where
-        go : Guard next (call_check edition form k nonce t ad (pass 0)) (call_check edition form k nonce t ad next) → r ≡ as_answer (call_check edition form k nonce t ad next)
-        go (lets_by e f) = absurd (z (number ∙ ap number_of (is ∙ ap as_answer e)))
-        go (holds x y e f) = is ∙ ap as_answer (e ∙ sym f)
+  -- and what comes after them decides
+  pub goes_on : (u : Unit {0}) → Ok u ≡ call_check edition form k nonce t ad (Ok (tt {0})) → {A : Type 0} (next : Result A Refusal)
+      → call_check edition form k nonce t ad next ≡ next
+  goes_on u e = lets_by_all (called u e)

@@ -2,22 +2,21 @@
 -- the edition (wish 7) and prepared keys (wish 9): checks 10 and 8, and then 1 to 6 in the order of their numbers. They go by the numbers
 -- of the edition and the form, by lengths alone (of the key, the nonce, the tag, the associated data, the message or the sealed bytes,
 -- and the output), and of a prepared key by its round count.
-use Rattle.std.specs.Prelude.{Bool, true, false, ◌&&◌, ◌||◌, ℕ, zero, suc, ◌+◌, ◌-◌, eqb, leb}
-use Rattle.link.specs.declared.answer.Answer.{Answer}
-use Rattle.link.specs.declared.answer.Answer.TheVariants.{Done, Key, Nonce, Tag, Data, Length, Room, Form, Edition}
+use Rattle.std.specs.Prelude.{Bool, true, false, ◌&&◌, ◌||◌, ℕ, zero, suc, ◌+◌, ◌-◌, eqb, leb, Result, Ok, Err}
+use Rattle.link.specs.declared.answer.Refusal.{Refusal}
+use Rattle.link.specs.declared.answer.Refusal.TheVariants.{Key, Nonce, Tag, Data, Length, Room, Form, Edition}
 
 -- a is from l to h
 abbrev pub from_to : ℕ → ℕ → ℕ → Bool
 from_to l h a = leb l a && leb a h
 
 -- what the checks come to: they pass, with the number of bytes that a call writes; or the first that fails stops the call
-pub data Check : Type 0 where
-  pass : ℕ → Check
-  stop : Answer → Check
+abbrev pub Check : Type 0
+Check = Result ℕ Refusal
 
-abbrev pub unless : Bool → Answer → Check → Check
+abbrev pub unless : {A : Type 0} → Bool → Refusal → Result A Refusal → Result A Refusal
 unless true r next = next
-unless false r next = stop r
+unless false r next = Err r
 
 -- check 10: the editions; and check 8: the last form that an edition has, which of edition 1 is the parallel one
 abbrev pub known_edition : ℕ → Bool
@@ -36,7 +35,7 @@ abbrev pub known_rounds : ℕ → Bool
 known_rounds rounds = eqb rounds 10 || (eqb rounds 12 || eqb rounds 14)
 
 -- checks 10, 8 and 1 to 4, which all calls share, and what comes after them
-unfoldable pub call_check : ℕ → ℕ → Bool → ℕ → ℕ → ℕ → Check → Check
+unfoldable pub call_check : {A : Type 0} → ℕ → ℕ → Bool → ℕ → ℕ → ℕ → Result A Refusal → Result A Refusal
 call_check edition form known nonce t ad next =
     unless (known_edition edition) Edition
     (unless (leb form (last_form edition)) Form
@@ -47,7 +46,7 @@ call_check edition form known nonce t ad next =
 
 -- sealing a message of m bytes into o bytes: checks 5 and 6, and all eight under a raw key and under a prepared one
 abbrev pub seal_next : ℕ → ℕ → ℕ → Check
-seal_next t m o = unless (leb m 16384) Length (unless (leb (m + t) o) Room (pass (m + t)))
+seal_next t m o = unless (leb m 16384) Length (unless (leb (m + t) o) Room (Ok (m + t)))
 
 abbrev pub seal_check : ℕ → ℕ → ℕ → ℕ → ℕ → ℕ → ℕ → ℕ → Check
 seal_check edition form key nonce t ad m o = call_check edition form (known_key key) nonce t ad (seal_next t m o)
@@ -57,15 +56,10 @@ seal_with_check edition form rounds nonce t ad m o = call_check edition form (kn
 
 -- opening s sealed bytes into o bytes: checks 5 and 6, and all eight likewise
 abbrev pub open_next : ℕ → ℕ → ℕ → Check
-open_next t s o = unless (from_to t (16384 + t) s) Length (unless (leb (s - t) o) Room (pass (s - t)))
+open_next t s o = unless (from_to t (16384 + t) s) Length (unless (leb (s - t) o) Room (Ok (s - t)))
 
 abbrev pub open_check : ℕ → ℕ → ℕ → ℕ → ℕ → ℕ → ℕ → ℕ → Check
 open_check edition form key nonce t ad s o = call_check edition form (known_key key) nonce t ad (open_next t s o)
 
 abbrev pub open_with_check : ℕ → ℕ → ℕ → ℕ → ℕ → ℕ → ℕ → ℕ → Check
 open_with_check edition form rounds nonce t ad s o = call_check edition form (known_rounds rounds) nonce t ad (open_next t s o)
-
--- a check as an answer, before the cipher has run
-abbrev pub as_answer : Check → Answer
-as_answer (pass n) = Done n 0
-as_answer (stop c) = c

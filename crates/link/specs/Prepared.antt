@@ -1,12 +1,13 @@
 -- Document 02, wish 9: a prepared key is a record of round count, round keys and E(zero), the first mask of the data pass.
-use Rattle.std.specs.Prelude.{Bool, true, false, List, [], ◌∷◌, ℕ, length}
+use Rattle.std.specs.Prelude.{Bool, true, false, List, [], ◌∷◌, ℕ, length, Err}
 use Rattle.lists.specs.Zeros.{zeros}
 use Rattle.aes.specs.Cipher.{cipher}
 use Rattle.aes.specs.Expansion.{aes}
 use Rattle.aes.specs.Key.{expanded}
 use Rattle.mode.specs.Data.{first_q, q_inputs}
+use Rattle.link.specs.Answers.{done}
 use Rattle.link.specs.Checks.{known_key}
-use Rattle.link.specs.declared.answer.Answer.TheVariants.{Done, Key}
+use Rattle.link.specs.declared.answer.Refusal.TheVariants.{Key}
 use Rattle.link.specs.declared.prepared.Prepared.{Prepared}
 use Rattle.link.specs.declared.prepared.Preparation.{Preparation}
 use Rattle.link.specs.declared.prepared.Own.{Own}
@@ -22,8 +23,8 @@ record_of key q = record { rounds = (expanded key).rounds; words = (expanded key
 -- ---- what preparing gives: E(zero) for the first mask, after its one run; for a key of another length the refusal 1, and a record of
 -- zeros
 abbrev pub prepared_if : Bool → List ℕ → Preparation
-prepared_if true key = record { answer = Done 0 (length (zeros 16 ∷ [])); key = record_of key (aes key (zeros 16)) }
-prepared_if false key = record { answer = Key; key = record { rounds = 0; words = zeros 240; zero = zeros 16 } }
+prepared_if true key = record { answer = done 0 (length (zeros 16 ∷ [])); key = record_of key (aes key (zeros 16)) }
+prepared_if false key = record { answer = Err Key; key = record { rounds = 0; words = zeros 240; zero = zeros 16 } }
 
 unfoldable pub preparation : List ℕ → Preparation
 preparation key = prepared_if (known_key (length key)) key

@@ -1,6 +1,6 @@
 -- What sealing and opening promise, under a raw key and under a prepared one, for every input: the answer, with how many times the cipher
 -- ran, and the complete output buffer.
-use Rattle.std.specs.Prelude.{◌≡◌, List, ℕ, length}
+use Rattle.std.specs.Prelude.{◌≡◌, List, ℕ, length, Ok, Err}
 use Rattle.lists.specs.Lay.{lay}
 use Rattle.aes.specs.Expansion.{aes}
 use Rattle.mode.specs.Edition.{edition_of}
@@ -8,10 +8,10 @@ use Rattle.mode.specs.Sealing.{otr_from, from_inputs, otr, otr_inputs}
 use Rattle.mode.specs.Opening.{Opened, accepted, refused, Allowed}
 use Rattle.mode.specs.Undoing.{found_from_inputs, found_inputs}
 use Rattle.passes.specs.Shown.{shown}
-use Rattle.link.specs.Checks.{Check, pass, stop, seal_check, seal_with_check, open_check, open_with_check}
+use Rattle.link.specs.Answers.{Answer, done}
+use Rattle.link.specs.Checks.{Check, seal_check, seal_with_check, open_check, open_with_check}
 use Rattle.link.specs.Prepared.{cipher_of}
-use Rattle.link.specs.declared.answer.Answer.{Answer}
-use Rattle.link.specs.declared.answer.Answer.TheVariants.{Done, Forged}
+use Rattle.link.specs.declared.answer.Refusal.TheVariants.{Forged}
 use Rattle.link.specs.declared.prepared.Prepared.{Prepared}
 
 -- AES-OTR in the edition and form named, over the AES of FIPS 197: what a message seals to
@@ -27,8 +27,8 @@ open_runs edition form key nonce ad t s = length (found_inputs (aes key) (editio
 
 -- ---- sealing: the answer r and the buffer after, for the message m and the buffer out; k is the number of runs
 abbrev pub SealsBy : Check → ℕ → List ℕ → List ℕ → Answer → List ℕ → Type 0
-SealsBy (pass n) k bytes out r after = (r ≡ Done n k) × (after ≡ lay 0 bytes out)
-SealsBy (stop c) k bytes out r after = (r ≡ c) × (after ≡ out)
+SealsBy (Ok n) k bytes out r after = (r ≡ done n k) × (after ≡ lay 0 bytes out)
+SealsBy (Err c) k bytes out r after = (r ≡ Err c) × (after ≡ out)
 
 unfoldable pub Seals : ℕ → ℕ → List ℕ → List ℕ → List ℕ → List ℕ → ℕ → List ℕ → Answer → List ℕ → Type 0
 Seals edition form key nonce ad m t out r after =
@@ -38,12 +38,12 @@ Seals edition form key nonce ad m t out r after =
 -- ---- opening, said by sealing alone but for the number of runs k: n message bytes come out of what sealing gives, and zeros where no
 -- message seals to s
 abbrev pub opened_as : ℕ → ℕ → Opened → Answer
-opened_as n k (accepted m) = Done n k
-opened_as n k refused = Forged k
+opened_as n k (accepted m) = done n k
+opened_as n k refused = Err (Forged k)
 
 abbrev pub OpensBy : Check → ℕ → (List ℕ → List ℕ) → List ℕ → List ℕ → Answer → List ℕ → Type 0
-OpensBy (pass n) k seal s out r after = (o : Opened) × Allowed seal s o × (r ≡ opened_as n k o) × (after ≡ shown o n out)
-OpensBy (stop c) k seal s out r after = (r ≡ c) × (after ≡ out)
+OpensBy (Ok n) k seal s out r after = (o : Opened) × Allowed seal s o × (r ≡ opened_as n k o) × (after ≡ shown o n out)
+OpensBy (Err c) k seal s out r after = (r ≡ Err c) × (after ≡ out)
 
 -- the answer r and the buffer after, for the sealed bytes s and the buffer out
 unfoldable pub Opens : ℕ → ℕ → List ℕ → List ℕ → List ℕ → List ℕ → ℕ → List ℕ → Answer → List ℕ → Type 0

@@ -1,19 +1,16 @@
 // Checks 10 and 8, and then 1 to 6 in the order of their numbers. They go by the numbers of the edition and the form, by lengths, and by
 // a prepared key's round count.
 ghost use Rattle.std.specs.Prelude.{◌≡◌};
-ghost use Rattle.link.specs.Checks.{from_to as between, pass, known_edition, last_form, known_key, known_rounds, call_check, seal_next, open_next, as_answer};
+ghost use Rattle.link.specs.Checks.{from_to as between, known_edition, last_form, known_key, known_rounds, call_check, seal_next, open_next};
 
-use crate::answer::{Answer, number};
+use crate::answer::Refusal;
 use aes::KeySize;
 
 // Whether a is from l to h.
 pub fn from_to(l: usize, h: usize, a: usize) -> bool
     ensures { result ≡ between l h a }
 {
-    if a < l {
-        return false;
-    }
-    a <= h
+    l <= a && a <= h
 }
 
 // Check 10.
@@ -65,6 +62,7 @@ pub fn known_rounds(rounds: usize) -> bool
 }
 
 // The checks that all calls share. Check 1 has been looked at: the key is known, or it is not.
+#[tactic(auto, unfolding(crate::specs::Checks::call_check))]
 pub fn call_check(
     edition: usize,
     form: usize,
@@ -72,28 +70,28 @@ pub fn call_check(
     nonce: usize,
     tag: usize,
     ad: usize,
-) -> Answer
-    ensures { result ≡ as_answer (call_check edition form known nonce tag ad (pass 0)) }
+) -> Result<(), Refusal>
+    ensures { result ≡ call_check edition form known nonce tag ad (Ok tt) }
 {
     if !known_edition(edition) {
-        return Answer::Edition;
+        return Err(Refusal::Edition);
     }
     if last_form(edition) < form {
-        return Answer::Form;
+        return Err(Refusal::Form);
     }
     if !known {
-        return Answer::Key;
+        return Err(Refusal::Key);
     }
     if !from_to(1, 15, nonce) {
-        return Answer::Nonce;
+        return Err(Refusal::Nonce);
     }
     if !from_to(4, 16, tag) {
-        return Answer::Tag;
+        return Err(Refusal::Tag);
     }
     if 4096 < ad {
-        return Answer::Data;
+        return Err(Refusal::Data);
     }
-    Answer::Done { length: 0, runs: 0 }
+    Ok(())
 }
 
 pub fn seal_check(
@@ -105,23 +103,17 @@ pub fn seal_check(
     ad: usize,
     message: usize,
     room: usize,
-) -> Answer
-    ensures { result ≡ as_answer (call_check edition form known nonce tag ad (seal_next tag message room)) }
+) -> Result<usize, Refusal>
+    ensures { result ≡ call_check edition form known nonce tag ad (seal_next tag message room) }
 {
-    let first = call_check(edition, form, known, nonce, tag, ad);
-    if number(first) != 0 {
-        return first;
-    }
+    call_check(edition, form, known, nonce, tag, ad)?;
     if 16384 < message {
-        return Answer::Length;
+        return Err(Refusal::Length);
     }
     if room < message + tag {
-        return Answer::Room;
+        return Err(Refusal::Room);
     }
-    Answer::Done {
-        length: message + tag,
-        runs: 0,
-    }
+    Ok(message + tag)
 }
 
 pub fn open_check(
@@ -133,21 +125,15 @@ pub fn open_check(
     ad: usize,
     sealed: usize,
     room: usize,
-) -> Answer
-    ensures { result ≡ as_answer (call_check edition form known nonce tag ad (open_next tag sealed room)) }
+) -> Result<usize, Refusal>
+    ensures { result ≡ call_check edition form known nonce tag ad (open_next tag sealed room) }
 {
-    let first = call_check(edition, form, known, nonce, tag, ad);
-    if number(first) != 0 {
-        return first;
-    }
+    call_check(edition, form, known, nonce, tag, ad)?;
     if !from_to(tag, 16384 + tag, sealed) {
-        return Answer::Length;
+        return Err(Refusal::Length);
     }
     if room < sealed - tag {
-        return Answer::Room;
+        return Err(Refusal::Room);
     }
-    Answer::Done {
-        length: sealed - tag,
-        runs: 0,
-    }
+    Ok(sealed - tag)
 }

@@ -12,7 +12,7 @@ mod parameters;
 mod prepared;
 mod under;
 
-pub use answer::{Answer, length, number, runs};
+pub use answer::{Answer, Done, Refusal, length, number, runs};
 pub use check::{call_check, from_to, known_key, known_rounds, seal_check};
 pub use parameters::Parameters;
 pub use prepared::{Own, Preparation, Prepared, own_record, prepare};
@@ -30,7 +30,7 @@ pub fn seal(
     ensures { Seals edition form key.now nonce.now ad.now message.now tag out.old result out.new }
 {
     let known = check::known_key(key.len());
-    let answer = check::seal_check(
+    check::seal_check(
         edition,
         form,
         known,
@@ -39,10 +39,7 @@ pub fn seal(
         ad.len(),
         message.len(),
         out.len(),
-    );
-    if number(answer) != 0 {
-        return answer;
-    }
+    )?;
     let tables = tables::joined();
     let own = prepared::own_record(&tables, key, ad);
     let made = own.key;
@@ -64,7 +61,7 @@ pub fn open(
     ensures { Opens edition form key.now nonce.now ad.now sealed.now tag out.old result out.new }
 {
     let known = check::known_key(key.len());
-    let answer = check::open_check(
+    check::open_check(
         edition,
         form,
         known,
@@ -73,10 +70,7 @@ pub fn open(
         ad.len(),
         sealed.len(),
         out.len(),
-    );
-    if number(answer) != 0 {
-        return answer;
-    }
+    )?;
     let tables = tables::joined();
     let own = prepared::own_record(&tables, key, ad);
     let made = own.key;
@@ -99,7 +93,7 @@ pub fn seal_with(
     ensures { SealsWith edition form key nonce.now ad.now message.now tag out.old result out.new }
 {
     let known = check::known_rounds(key.rounds);
-    let answer = check::seal_check(
+    check::seal_check(
         edition,
         form,
         known,
@@ -108,10 +102,7 @@ pub fn seal_with(
         ad.len(),
         message.len(),
         out.len(),
-    );
-    if number(answer) != 0 {
-        return answer;
-    }
+    )?;
     let tables = tables::joined();
     under::seal(edition, form, &tables, key, 0, nonce, ad, message, tag, out)
 }
@@ -129,7 +120,7 @@ pub fn open_with(
     ensures { OpensWith edition form key nonce.now ad.now sealed.now tag out.old result out.new }
 {
     let known = check::known_rounds(key.rounds);
-    let answer = check::open_check(
+    check::open_check(
         edition,
         form,
         known,
@@ -138,10 +129,7 @@ pub fn open_with(
         ad.len(),
         sealed.len(),
         out.len(),
-    );
-    if number(answer) != 0 {
-        return answer;
-    }
+    )?;
     let tables = tables::joined();
     under::open(edition, form, &tables, key, 0, nonce, ad, sealed, tag, out)
 }

@@ -5,7 +5,7 @@ ghost use Rattle.mode.specs.Data.{with_data};
 ghost use Rattle.link.specs.Checks.{known_key};
 ghost use Rattle.link.specs.Prepared.{preparation, own_of};
 
-use crate::answer::Answer;
+use crate::answer::{Answer, Done, Refusal};
 use crate::check;
 
 // The round count, the round keys, and the first mask of the data pass. `prepare` gives a key's own, the round keys not used zero, and
@@ -63,6 +63,7 @@ pub fn own_record(tables: &[u32; 1024], key: &[u8], ad: &[u8]) -> Own
     record_of(tables, key, 0 < ad.len())
 }
 
+#[tactic(auto, unfolding(crate::specs::Prepared::preparation))]
 pub fn prepare(key: &[u8]) -> Preparation
     ensures { result ≡ preparation key.now }
 {
@@ -75,19 +76,18 @@ pub fn prepare(key: &[u8]) -> Preparation
             zero: q,
         };
         return Preparation {
-            answer: Answer::Key,
+            answer: Err(Refusal::Key),
             key: made,
         };
     }
     let tables = tables::joined();
     let own = record_of(&tables, key, true);
     let made = own.key;
-    let answer = Answer::Done {
-        length: 0,
-        runs: own.runs,
-    };
     Preparation {
-        answer: answer,
+        answer: Ok(Done {
+            length: 0,
+            runs: own.runs,
+        }),
         key: made,
     }
 }

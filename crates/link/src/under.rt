@@ -2,10 +2,9 @@
 // for the record itself.
 ghost use Rattle.std.specs.Prelude.{◌≡◌, ◌+◌, ◌-◌, ◌≤◌, length};
 ghost use Rattle.tables.specs.Joined.{joined};
-ghost use Rattle.link.specs.Checks.{pass};
 ghost use Rattle.link.specs.Promises.{sealing_with, seal_runs_with, open_runs_with, SealsBy, OpensBy};
 
-use crate::answer::Answer;
+use crate::answer::{Answer, Done, Refusal};
 use crate::prepared::Prepared;
 
 pub fn seal(
@@ -24,17 +23,17 @@ pub fn seal(
     requires round_count { (10 ≤ key.rounds) × (key.rounds ≤ 14) }
     requires lengths { (1 ≤ length nonce.now) × ((length nonce.now ≤ 15) × (tag ≤ 16)) }
     requires room { (length message.now + tag ≤ length out.old) × (before ≤ 1) }
-    ensures { SealsBy (pass (length message.now + tag)) (before + seal_runs_with edition form key nonce.now ad.now tag message.now) (sealing_with edition form key nonce.now ad.now tag message.now) out.old result out.new }
+    ensures { SealsBy (Ok (length message.now + tag)) (before + seal_runs_with edition form key nonce.now ad.now tag message.now) (sealing_with edition form key nonce.now ad.now tag message.now) out.old result out.new }
 {
     let nr = key.rounds;
     let q = key.zero;
     let ran = passes::seal(
         edition, form, tables, &key.words, nr, q, nonce, ad, message, tag, out,
     );
-    Answer::Done {
+    Ok(Done {
         length: message.len() + tag,
         runs: before + ran,
-    }
+    })
 }
 
 pub fn open(
@@ -53,7 +52,7 @@ pub fn open(
     requires round_count { (10 ≤ key.rounds) × (key.rounds ≤ 14) }
     requires lengths { (1 ≤ length nonce.now) × ((length nonce.now ≤ 15) × (tag ≤ 16)) }
     requires room { (tag ≤ length sealed.now) × ((length sealed.now - tag ≤ length out.old) × (before ≤ 1)) }
-    ensures { OpensBy (pass (length sealed.now - tag)) (before + open_runs_with edition form key nonce.now ad.now tag sealed.now) (sealing_with edition form key nonce.now ad.now tag) sealed.now out.old result out.new }
+    ensures { OpensBy (Ok (length sealed.now - tag)) (before + open_runs_with edition form key nonce.now ad.now tag sealed.now) (sealing_with edition form key nonce.now ad.now tag) sealed.now out.old result out.new }
 {
     let nr = key.rounds;
     let q = key.zero;
@@ -62,10 +61,10 @@ pub fn open(
     );
     let ran = before + opening.runs;
     if opening.matches {
-        return Answer::Done {
+        return Ok(Done {
             length: sealed.len() - tag,
             runs: ran,
-        };
+        });
     }
-    Answer::Forged { runs: ran }
+    Err(Refusal::Forged { runs: ran })
 }

@@ -9,7 +9,7 @@ use Rattle.aes.specs.Cipher.{cipher}
 use Rattle.aes.specs.Key.{expanded}
 use Rattle.block.specs.Block.{triple}
 use Rattle.mode.specs.Form.{form_of}
-use Rattle.mode.specs.Edition.{V3}
+use Rattle.mode.specs.declared.edition.Edition.TheVariants.{V3}
 use Rattle.mode.specs.Data.{first_q, q_inputs, with_data}
 use Rattle.mode.specs.Nonce.{format}
 use Rattle.mode.specs.Sealing.{first_mask, into_tag, call_inputs}

@@ -6,7 +6,7 @@ use Rattle.lists.specs.Lay.{lay}
 use Rattle.lists.specs.Zeros.{zeros}
 use Rattle.aes.specs.Key.{expanded}
 use Rattle.mode.specs.Form.{form_of}
-use Rattle.mode.specs.Edition.{V3}
+use Rattle.mode.specs.declared.edition.Edition.TheVariants.{V3}
 use Rattle.mode.specs.Data.{q_inputs, with_data}
 use Rattle.mode.specs.Sealing.{call_inputs}
 use Rattle.mode.specs.Feeding.{fed_bytes, fed_inputs, end_bytes, end_inputs}

@@ -3,7 +3,7 @@ use Rattle.std.specs.Prelude.{Bool, ◌&&◌, List, ℕ, ◌+◌, ◌*◌, leb, 
 use Rattle.lists.specs.Zeros.{zeros}
 use Rattle.block.specs.Block.{triple}
 use Rattle.mode.specs.Form.{form_of}
-use Rattle.mode.specs.Edition.{V3}
+use Rattle.mode.specs.declared.edition.Edition.TheVariants.{V3}
 use Rattle.mode.specs.Message.{pairs_of}
 use Rattle.mode.specs.Sealing.{u, added}
 use Rattle.mode.specs.Feeding.{Between, keeps}

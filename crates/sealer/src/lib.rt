@@ -7,7 +7,7 @@ ghost use Rattle.std.specs.Prelude.{◌≡◌, ◌+◌, ◌*◌, ◌≤◌, leng
 ghost use Rattle.tables.specs.Joined.{joined};
 ghost use Rattle.aes.specs.Cipher.{cipher};
 ghost use Rattle.mode.specs.Form.{form_of};
-ghost use Rattle.mode.specs.Edition.{V3};
+ghost use Rattle.mode.specs.declared.edition.Edition.TheVariants.{V3};
 ghost use Rattle.mode.specs.Sealing.{call_inputs};
 ghost use Rattle.mode.specs.Message.{pairs_of};
 ghost use Rattle.mode.specs.Feeding.{keeps, fed_bytes, fed_inputs, end_bytes, end_inputs};

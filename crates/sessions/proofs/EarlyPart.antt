@@ -10,7 +10,8 @@ use Rattle.lists.specs.Zeros.{zeros}
 use Rattle.aes.specs.Cipher.{cipher}
 use Rattle.aes.specs.Key.{expanded}
 use Rattle.mode.specs.Form.{form_of}
-use Rattle.mode.specs.Edition.{Edition, V3}
+use Rattle.mode.specs.declared.edition.Edition.{Edition}
+use Rattle.mode.specs.declared.edition.Edition.TheVariants.{V3}
 use Rattle.mode.specs.Masks.{Masks, IsCipher}
 use Rattle.mode.specs.Message.{pairs_of, pairs}
 use Rattle.mode.specs.Sealing.{masks, otr, otr_inputs}

@@ -10,7 +10,7 @@ use Rattle.lists.specs.Zeros.{zeros}
 use Rattle.aes.specs.Cipher.{cipher}
 use Rattle.aes.specs.Expansion.{aes}
 use Rattle.mode.specs.Form.{form_of}
-use Rattle.mode.specs.Edition.{V3}
+use Rattle.mode.specs.declared.edition.Edition.TheVariants.{V3}
 use Rattle.mode.specs.Sealing.{otr, otr_inputs}
 use Rattle.mode.proofs.Otr.{length-otr}
 use Rattle.pairs.proofs.Cipher.{is_cipher}

@@ -9,7 +9,7 @@ use Rattle.lists.specs.Zeros.{zeros}
 use Rattle.aes.specs.Key.{expanded}
 use Rattle.block.specs.Block.{triple}
 use Rattle.mode.specs.Form.{form_of}
-use Rattle.mode.specs.Edition.{V3}
+use Rattle.mode.specs.declared.edition.Edition.TheVariants.{V3}
 use Rattle.mode.specs.Masks.{Masks, doubles, third}
 use Rattle.mode.specs.Message.{blocks, pairs_of, rest, sum}
 use Rattle.mode.specs.Sealing.{u, masks, added}

@@ -16,7 +16,8 @@ use Rattle.lists.specs.Zeros.{zeros}
 use Rattle.lists.proofs.Zeros.{length-zeros}
 use Rattle.aes.specs.Key.{expanded}
 use Rattle.mode.specs.Form.{form_of}
-use Rattle.mode.specs.Edition.{Edition, V3}
+use Rattle.mode.specs.declared.edition.Edition.{Edition}
+use Rattle.mode.specs.declared.edition.Edition.TheVariants.{V3}
 use Rattle.mode.specs.Masks.{Masks, IsCipher, AreMasks}
 use Rattle.mode.specs.Message.{blocks, pairs_of, rest, pairs, pairs_inputs}
 use Rattle.mode.specs.Data.{q_inputs, with_data}

@@ -11,8 +11,11 @@ use Rattle.lists.specs.Hex.{bytes}
 use Rattle.lists.specs.Zeros.{zeros}
 use Rattle.lists.proofs.Laid.{lay_whole}
 use Rattle.aes.specs.Expansion.{aes}
-use Rattle.mode.specs.Form.{Parallel, form_of}
-use Rattle.mode.specs.Edition.{Edition, V3, edition_of}
+use Rattle.mode.specs.Form.{form_of}
+use Rattle.mode.specs.declared.edition.Form.TheVariants.{Parallel}
+use Rattle.mode.specs.Edition.{edition_of}
+use Rattle.mode.specs.declared.edition.Edition.{Edition}
+use Rattle.mode.specs.declared.edition.Edition.TheVariants.{V3}
 use Rattle.mode.specs.Sealing.{otr}
 use Rattle.mode.proofs.Otr.{length-otr, otr_injective}
 use Rattle.link.specs.Answers.{number_of, runs_of}

@@ -8,7 +8,7 @@ use Rattle.lists.specs.Hex.{bytes}
 use Rattle.lists.specs.Zeros.{zeros}
 use Rattle.aes.specs.Expansion.{aes}
 use Rattle.block.specs.Block.{pad}
-use Rattle.mode.specs.Edition.{V1}
+use Rattle.mode.specs.declared.edition.Edition.TheVariants.{V1}
 use Rattle.mode.specs.Nonce.{format}
 use Rattle.mode.specs.Sealing.{sealed, data_tag}
 use Rattle.link.specs.Answers.{number_of}

@@ -8,8 +8,8 @@ use lib.ListN.{length, get_or, take}
 use lib.Seq.{get_or-take}
 use Rattle.lists.specs.Zeros.{zeros}
 use Rattle.aes.specs.Expansion.{aes}
-use Rattle.mode.specs.Form.{Parallel}
-use Rattle.mode.specs.Edition.{V3}
+use Rattle.mode.specs.declared.edition.Form.TheVariants.{Parallel}
+use Rattle.mode.specs.declared.edition.Edition.TheVariants.{V3}
 use Rattle.mode.specs.Message.{blocks, pairs_of, pairs}
 use Rattle.mode.specs.Sealing.{masks}
 use Rattle.mode.specs.Feeding.{from}

@@ -14,8 +14,9 @@ use Rattle.field.specs.Substitution.{affine, substitute}
 use Rattle.aes.specs.Cipher.{add_round_key, round, last_round, rounds, cipher}
 use Rattle.aes.proofs.Front.{cipher_front}
 use Rattle.block.specs.Block.{pad, shift, double}
-use Rattle.mode.specs.Form.{Parallel, Serial}
-use Rattle.mode.specs.Edition.{Edition, V1, V3}
+use Rattle.mode.specs.declared.edition.Form.TheVariants.{Parallel, Serial}
+use Rattle.mode.specs.declared.edition.Edition.{Edition}
+use Rattle.mode.specs.declared.edition.Edition.TheVariants.{V1, V3}
 use Rattle.mode.specs.Masks.{Masks, AreMasks, doubles, third, first}
 use Rattle.mode.specs.Message.{blocks, pairs_of, even}
 use Rattle.mode.specs.Data.{data_sum, chain, ta}

@@ -19,8 +19,11 @@ use Rattle.field.specs.Substitution.{affine, substitute}
 use Rattle.aes.specs.Cipher.{add_round_key, round, last_round, rounds, cipher}
 use Rattle.aes.specs.Expansion.{power, temp, next, words, key_expansion, aes}
 use Rattle.block.specs.Block.{pad, shift, double}
-use Rattle.mode.specs.Form.{Form, Parallel, Serial}
-use Rattle.mode.specs.Edition.{Edition, V1, V3, form_in}
+use Rattle.mode.specs.declared.edition.Form.{Form}
+use Rattle.mode.specs.declared.edition.Form.TheVariants.{Parallel, Serial}
+use Rattle.mode.specs.Edition.{form_in}
+use Rattle.mode.specs.declared.edition.Edition.{Edition}
+use Rattle.mode.specs.declared.edition.Edition.TheVariants.{V1, V3}
 use Rattle.mode.specs.Masks.{Masks, IsCipher, AreMasks, doubles, first, masks_of}
 use Rattle.mode.specs.Message.{blocks, pairs_of, even, rest, half, last, ending, pairs, body}
 use Rattle.mode.specs.Nonce.{format, nonce_block}

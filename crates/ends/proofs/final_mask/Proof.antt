@@ -1,7 +1,7 @@
 -- `ends::final_mask` meets its contract, edition by edition. Assumes nothing.
 use mathlib.Core.Path.{sym, ap, ◌∙◌}
 use lib.Dec.{ltb}
-use Rattle.mode.specs.Edition.{Edition}
+use Rattle.mode.specs.declared.edition.Edition.{Edition}
 use Rattle.mode.specs.Masks.{masks_of}
 use Rattle.mode.specs.Message.{final}
 use Rattle.mode.proofs.Editions.{is_first, is_third}

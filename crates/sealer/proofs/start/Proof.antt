@@ -6,7 +6,7 @@ use native.Mathlib.Omega.{arith}
 use lib.ListN.{length}
 use Rattle.block.specs.Block.{triple}
 use Rattle.mode.specs.Form.{form_of}
-use Rattle.mode.specs.Edition.{V3}
+use Rattle.mode.specs.declared.edition.Edition.TheVariants.{V3}
 use Rattle.mode.specs.Sealing.{u, added, call_inputs}
 use Rattle.mode.proofs.Runs.{length-call_inputs}
 use Rattle.link.specs.Prepared.{cipher_of}

@@ -10,8 +10,8 @@ use Rattle.lists.specs.Lay.{lay}
 use Rattle.aes.specs.Cipher.{cipher}
 use Rattle.block.specs.Wide.{bytes_of}
 use Rattle.block.proofs.Words.{length-bytes}
-use Rattle.mode.specs.Form.{Parallel}
-use Rattle.mode.specs.Edition.{V3}
+use Rattle.mode.specs.declared.edition.Form.TheVariants.{Parallel}
+use Rattle.mode.specs.declared.edition.Edition.TheVariants.{V3}
 use Rattle.mode.specs.Masks.{third}
 use Rattle.mode.specs.Message.{pairs_of, pairs}
 use Rattle.mode.proofs.Counts.{pairs-within}

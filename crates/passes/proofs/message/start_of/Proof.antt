@@ -12,7 +12,7 @@ use Rattle.lists.proofs.Xor.{xor_assoc, xor_cancel}
 use Rattle.block.specs.Block.{double, triple}
 use Rattle.block.proofs.Doubling.{length-double, length-triple}
 use Rattle.block.proofs.Linear.{Bytes, bytes-double, double-xor}
-use Rattle.mode.specs.Edition.{Edition}
+use Rattle.mode.specs.declared.edition.Edition.{Edition}
 use Rattle.mode.specs.Masks.{Masks, doubles, third, first, masks_of}
 use Rattle.mode.proofs.Editions.{is_first, is_third}
 use Rattle.mode.proofs.Data.{length-doubles}
