@@ -24,6 +24,12 @@ const SBOX: [u8; 256] = [
     0x8c, 0xa1, 0x89, 0x0d, 0xbf, 0xe6, 0x42, 0x68, 0x41, 0x99, 0x2d, 0x0f, 0xb0, 0x54, 0xbb, 0x16,
 ];
 
+// Whatever substitutes a byte.
+pub trait Substitution {
+    fn substitute(&self, b: u8) -> u8
+        ensures { result ≡ substitute b };
+}
+
 // The substitution as a table. It is made once in a call and lent down from there: indexing a constant copies it at each lookup.
 #[derive(Drop)]
 pub struct Sbox {
@@ -36,10 +42,10 @@ impl Sbox {
         let table = SBOX;
         Sbox { table }
     }
+}
 
-    pub fn substitute(&self, b: u8) -> u8
-        ensures { result ≡ substitute b }
-    {
+impl Substitution for Sbox {
+    fn substitute(&self, b: u8) -> u8 {
         self.table[b as usize]
     }
 }
