@@ -4,19 +4,20 @@ use mathlib.Core.List.{List}
 use Prim.Native.Nat.{ℕ, ◌+◌, ◌-◌, ◌*◌, ◌≤◌}
 use native.Mathlib.Omega.{arith}
 use lib.ListN.{length, drop}
+use Rattle.std.specs.Prelude.{Option, Some, None, option_map, unwrap_or}
 use Rattle.lists.specs.Zeros.{zeros}
 use Rattle.aes.specs.Cipher.{cipher}
 use Rattle.aes.specs.Expansion.{key_words, key_rounds, key_expansion, aes}
-use Rattle.aes.specs.Key.{size_of, expanded_as, expanded}
+use Rattle.aes.specs.Key.{known, size_of, expanded_as, expansion_of, expanded}
 use Rattle.aes.specs.declared.key.KeySize.{KeySize}
-use Rattle.aes.specs.declared.key.KeySize.TheVariants.{Known, Refused}
+use Rattle.aes.specs.declared.key.RoundKeys.{RoundKeys}
 use Rattle.aes.proofs.Words.{length-words}
 use Rattle.aes.proofs.Sizes.{Sizes, sizes}
 use Rattle.aes.proofs.Front.{cipher_front}
 
 -- what a key of a known length has
 pub record Usable (key : List ℕ) : Type 0 where
-  pub known : size_of (length key) ≡ Known (key_rounds key) (4 * (key_rounds key + 1))
+  pub known : size_of (length key) ≡ known (key_rounds key) (4 * (key_rounds key + 1))
   pub rounds : (expanded key).rounds ≡ key_rounds key
   pub least : 10 ≤ key_rounds key
   pub most : key_rounds key ≤ 14
@@ -27,14 +28,15 @@ unfolding key_expansion
 length_expansion key h l =
     omega (arith, length-words (key_words key) key (4 * (key_rounds key + 1) - key_words key) h)
 
-pub usable : (key : List ℕ) (r n : ℕ) → size_of (length key) ≡ Known r n → Usable key
+pub usable : (key : List ℕ) (s : KeySize) → size_of (length key) ≡ Some s → Usable key
 unfolding expanded aes
-usable key r n e =
-    let s : Sizes (length key) r n = sizes (length key) r n e in
-    let re : r ≡ key_rounds key = s.rounds in
-    let ne : n ≡ 4 * (key_rounds key + 1) = omega arith in
-    let full : size_of (length key) ≡ Known (key_rounds key) (4 * (key_rounds key + 1)) = e ∙ ap₂ Known re ne in
-    let is : expanded key ≡ expanded_as key (Known (key_rounds key) (4 * (key_rounds key + 1))) = ap (expanded_as key) full in
+usable key s e =
+    let z : Sizes (length key) s.rounds s.words = sizes (length key) s e in
+    let re : s.rounds ≡ key_rounds key = z.rounds in
+    let ne : s.words ≡ 4 * (key_rounds key + 1) = omega arith in
+    let full : size_of (length key) ≡ known (key_rounds key) (4 * (key_rounds key + 1)) = e ∙ ap₂ known re ne in
+    let is : expanded key ≡ expanded_as key (record { rounds = key_rounds key; words = 4 * (key_rounds key + 1) }) =
+    ap (λ (o : Option KeySize). unwrap_or (option_map (expanded_as key) o) (record { rounds = 0; words = zeros 240 })) full in
     record {
       known = full;
       rounds = ap (λ k. k.rounds) is;
@@ -47,19 +49,18 @@ usable key r n e =
           (omega (arith, length_expansion key (omega arith) (omega arith)));
     }
 
--- by the round count that the record holds
-pub refused : (key : List ℕ) → (expanded key).rounds ≡ 0 → size_of (length key) ≡ Refused
-unfolding expanded
-refused key z = go (size_of (length key)) refl z
+-- by the round keys themselves
+pub refused : (key : List ℕ) → expansion_of key ≡ None → size_of (length key) ≡ None
+refused key e = go (size_of (length key)) refl e
   where
-    go : (s : KeySize) → size_of (length key) ≡ s → (expanded_as key s).rounds ≡ 0 → size_of (length key) ≡ Refused
-    go (Known r n) e z = absurd (omega (arith, sizes (length key) r n e))
-    go Refused e z = e
+    go : (o : Option KeySize) → size_of (length key) ≡ o → option_map (expanded_as key) o ≡ None → size_of (length key) ≡ None
+    go (Some s) z e = absurd (let f : ◌≡◌ {A = ℕ} 0 1 = cc in omega arith)
+    go None z e = z
 
-pub accepted : (key : List ℕ) → ((expanded key).rounds ≡ 0 → ⊥) → Usable key
+pub accepted : (key : List ℕ) (k : RoundKeys) → expansion_of key ≡ Some k → (expanded key ≡ k) × Usable key
 unfolding expanded
-accepted key z = go (size_of (length key)) refl z
+accepted key k e = (ap (λ (o : Option RoundKeys). unwrap_or o (record { rounds = 0; words = zeros 240 })) e, go (size_of (length key)) refl e)
   where
-    go : (s : KeySize) → size_of (length key) ≡ s → ((expanded_as key s).rounds ≡ 0 → ⊥) → Usable key
-    go (Known r n) e z = usable key r n e
-    go Refused e z = absurd (z refl)
+    go : (o : Option KeySize) → size_of (length key) ≡ o → option_map (expanded_as key) o ≡ Some k → Usable key
+    go (Some s) z e = usable key s z
+    go None z e = absurd (let f : ◌≡◌ {A = ℕ} 0 1 = cc in omega arith)

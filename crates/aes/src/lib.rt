@@ -5,6 +5,9 @@ mod cipher;
 mod expansion;
 mod key;
 mod state;
+mod steps;
 
-pub use key::{Ciphered, KeySize, RoundKeys, blank, encrypt_under, expand, key_size};
-pub use state::{add_round_key, input, key_word, output, shift_rows};
+pub use cipher::encrypt;
+pub use key::{KeySize, RoundKeys, blank, encrypt_under, expand, key_size};
+pub use state::{key_word, shift_rows};
+pub use steps::Steps;

@@ -2,11 +2,12 @@
 ghost use Rattle.std.specs.Prelude.{◌≡◌, ◌+◌, ◌*◌, ◌≤◌, ◌<◌, get_or};
 ghost use Rattle.std.specs.Int.Bits.{bit_xor};
 ghost use Rattle.words.specs.Word.{little};
-ghost use Rattle.field.specs.Substitution.{sbox};
 ghost use Rattle.aes.specs.State.{input as input_of, output as output_of, column, word};
 ghost use Rattle.aes.specs.Expansion.{sub_word};
 ghost use Rattle.aes.specs.Cipher.{sub_bytes, shift_rows, mixed as mixed_of, mix_columns, add_round_key};
 ghost use Rattle.aes.specs.Column.{mixed_column};
+
+use field::Substitution;
 
 pub fn input(b: [u8; 16]) -> [[u8; 4]; 4]
     ensures { result ≡ input_of b }
@@ -22,10 +23,7 @@ pub fn input(b: [u8; 16]) -> [[u8; 4]; 4]
 pub fn output(s: [[u8; 4]; 4]) -> [u8; 16]
     ensures { result ≡ output_of s }
 {
-    let a = s[0];
-    let b = s[1];
-    let c = s[2];
-    let d = s[3];
+    let [a, b, c, d] = s;
     [
         a[0], a[1], a[2], a[3], b[0], b[1], b[2], b[3], c[0], c[1], c[2], c[3], d[0], d[1], d[2],
         d[3],
@@ -33,37 +31,34 @@ pub fn output(s: [[u8; 4]; 4]) -> [u8; 16]
 }
 
 // A column of the state, or a word of the key.
-pub fn sub_word(table: &[u8; 256], a: [u8; 4]) -> [u8; 4]
-    requires { table.now ≡ sbox }
+pub fn sub_word<S: Substitution>(table: &S, a: [u8; 4]) -> [u8; 4]
     ensures { result ≡ sub_word a }
 {
+    let [p, q, r, s] = a;
     [
-        field::substitute_byte(table, a[0]),
-        field::substitute_byte(table, a[1]),
-        field::substitute_byte(table, a[2]),
-        field::substitute_byte(table, a[3]),
+        table.substitute(p),
+        table.substitute(q),
+        table.substitute(r),
+        table.substitute(s),
     ]
 }
 
-pub fn sub_bytes(table: &[u8; 256], s: [[u8; 4]; 4]) -> [[u8; 4]; 4]
-    requires { table.now ≡ sbox }
+pub fn sub_bytes<S: Substitution>(table: &S, s: [[u8; 4]; 4]) -> [[u8; 4]; 4]
     ensures { result ≡ sub_bytes s }
 {
+    let [a, b, c, d] = s;
     [
-        sub_word(table, s[0]),
-        sub_word(table, s[1]),
-        sub_word(table, s[2]),
-        sub_word(table, s[3]),
+        sub_word(table, a),
+        sub_word(table, b),
+        sub_word(table, c),
+        sub_word(table, d),
     ]
 }
 
 pub fn shift_rows(s: [[u8; 4]; 4]) -> [[u8; 4]; 4]
     ensures { result ≡ shift_rows s }
 {
-    let a = s[0];
-    let b = s[1];
-    let c = s[2];
-    let d = s[3];
+    let [a, b, c, d] = s;
     [
         [a[0], b[1], c[2], d[3]],
         [b[0], c[1], d[2], a[3]],
@@ -81,10 +76,7 @@ fn mixed(a: u8, b: u8, c: u8, d: u8) -> u8
 fn mix_column(a: [u8; 4]) -> [u8; 4]
     ensures { result ≡ mixed_column a }
 {
-    let p = a[0];
-    let q = a[1];
-    let r = a[2];
-    let s = a[3];
+    let [p, q, r, s] = a;
     [
         mixed(p, q, r, s),
         mixed(q, r, s, p),

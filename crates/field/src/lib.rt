@@ -24,18 +24,30 @@ const SBOX: [u8; 256] = [
     0x8c, 0xa1, 0x89, 0x0d, 0xbf, 0xe6, 0x42, 0x68, 0x41, 0x99, 0x2d, 0x0f, 0xb0, 0x54, 0xbb, 0x16,
 ];
 
-// The table, to be copied once in a call and lent down from there: indexing a constant copies it at each lookup.
-pub fn sbox() -> [u8; 256]
-    ensures { result ≡ substitution }
-{
-    SBOX
+// Whatever substitutes a byte.
+pub trait Substitution {
+    fn substitute(&self, b: u8) -> u8
+        ensures { result ≡ substitute b };
 }
 
-pub fn substitute_byte(table: &[u8; 256], b: u8) -> u8
-    requires { table.now ≡ substitution }
-    ensures { result ≡ substitute b }
-{
-    table[b as usize]
+// The substitution as a table. It is made once in a call and lent down from there: indexing a constant copies it at each lookup.
+#[derive(Drop)]
+pub struct Sbox {
+    table: [u8; 256],
+    ghost is_substitution: { table ≡ substitution },
+}
+
+impl Sbox {
+    pub fn new() -> Sbox {
+        let table = SBOX;
+        Sbox { table }
+    }
+}
+
+impl Substitution for Sbox {
+    fn substitute(&self, b: u8) -> u8 {
+        self.table[b as usize]
+    }
 }
 
 // FIPS 197, 4.2.1, with no branch on the byte: 2 · b, less m(x) where that has an x⁸. The x⁸ is multiplied at its own place, and

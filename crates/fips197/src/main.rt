@@ -3,6 +3,7 @@
 
 ghost use Rattle.std.specs.Prelude.{◌≤◌};
 
+use field::Sbox;
 use std::io;
 
 const C_BLOCK: [u8; 16] = [
@@ -23,8 +24,10 @@ fn print_row(rt: &impl Print, name: &[u8], bytes: &[u8]) -> io::Result<()> {
 }
 
 fn cipher_row(rt: &impl Print, name: &[u8], key: &[u8], block: [u8; 16]) -> io::Result<()> {
-    let out = aes::encrypt_under(key, block);
-    print_row(rt, name, &out.block)
+    if let Some(out) = aes::encrypt_under(key, block) {
+        print_row(rt, name, &out)?;
+    }
+    Ok(())
 }
 
 // The last word that the key's rounds use.
@@ -36,12 +39,11 @@ fn last_word(words: &[u8; 240], rounds: usize) -> [u8; 4]
 }
 
 fn expansion_row(rt: &impl Print, name: &[u8], key: &[u8]) -> io::Result<()> {
-    let table = field::sbox();
-    let keys = aes::expand(&table, key);
-    let rounds = keys.rounds;
-    let words = keys.words;
-    if rounds <= 14 {
-        let word = last_word(&words, rounds);
+    if let Some(keys) = aes::expand(&Sbox::new(), key)
+        && keys.rounds <= 14
+    {
+        let words = keys.words;
+        let word = last_word(&words, keys.rounds);
         print_row(rt, name, &word)?;
     }
     Ok(())

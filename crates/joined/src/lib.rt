@@ -1,4 +1,4 @@
-// The cipher of FIPS 197 by the joined tables, which every function is lent.
+// The cipher of FIPS 197 by the joined tables, which each `Cipher` has.
 #![tactic(auto)]
 
 mod cipher;
@@ -6,6 +6,5 @@ mod column;
 mod ran;
 mod under;
 
-pub use cipher::encrypt;
 pub use ran::Ran;
 pub use under::Cipher;

@@ -2,28 +2,27 @@
 ghost use Rattle.std.specs.Prelude.{◌≡◌, ◌≤◌};
 ghost use Rattle.aes.specs.Under.{cipher_under};
 
-use crate::cipher;
+use crate::column::ByTables;
 use aes::RoundKeys;
 use std::marker::Model;
 
 // E of the papers, under one key. It holds tables of its own, so that they are copied once for each call.
 #[derive(Drop)]
 pub struct Cipher {
-    tables: [u32; 1024],
+    tables: ByTables,
     words: [u8; 240],
     rounds: usize,
 }
 
 impl Model for Cipher {
-    ghost use Rattle.std.specs.Prelude.{◌≡◌, ◌≤◌};
-    ghost use Rattle.tables.specs.Joined.{joined};
+    ghost use Rattle.std.specs.Prelude.{◌≤◌};
     ghost use Rattle.aes.specs.declared.key.RoundKeys.{RoundKeys};
 
     ghost Value = { RoundKeys };
 
     ghost view = { λ e. record { rounds = e.rounds; words = e.words } };
 
-    ghost invariant = { λ e. (e.tables ≡ joined) × ((10 ≤ e.rounds) × (e.rounds ≤ 14)) };
+    ghost invariant = { λ e. (10 ≤ e.rounds) × (e.rounds ≤ 14) };
 }
 
 impl Cipher {
@@ -31,10 +30,9 @@ impl Cipher {
         requires { (10 ≤ keys.rounds) × (keys.rounds ≤ 14) }
         ensures { result ≡ keys }
     {
-        let tables = tables::joined();
         let words = keys.words;
         Cipher {
-            tables,
+            tables: ByTables::new(),
             words,
             rounds: keys.rounds,
         }
@@ -43,6 +41,6 @@ impl Cipher {
     pub fn encrypt(&self, block: [u8; 16]) -> [u8; 16]
         ensures { result ≡ cipher_under self.now block }
     {
-        cipher::encrypt(&self.tables, &self.words, self.rounds, block)
+        aes::encrypt(&self.tables, &self.words, self.rounds, block)
     }
 }

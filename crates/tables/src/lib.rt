@@ -1,8 +1,8 @@
 // The four tables that join substitution and column mixing, one behind another (specs/Joined.antt).
 #![tactic(auto)]
 
-ghost use Rattle.std.specs.Prelude.{◌≡◌};
-ghost use Rattle.tables.specs.Joined.{joined as joined_of};
+ghost use Rattle.std.specs.Prelude.{◌≡◌, ◌<◌};
+ghost use Rattle.tables.specs.Joined.{entry, joined};
 
 const JOINED: [u32; 1024] = [
     0xa56363c6, 0x847c7cf8, 0x997777ee, 0x8d7b7bf6, 0x0df2f2ff, 0xbd6b6bd6, 0xb16f6fde, 0x54c5c591,
@@ -135,9 +135,24 @@ const JOINED: [u32; 1024] = [
     0x82c34141, 0x29b09999, 0x5a772d2d, 0x1e110f0f, 0x7bcbb0b0, 0xa8fc5454, 0x6dd6bbbb, 0x2c3a1616,
 ];
 
-// The tables, to be copied once in a call and lent down from there: indexing a constant copies it at each lookup.
-pub fn joined() -> [u32; 1024]
-    ensures { result ≡ joined_of }
-{
-    JOINED
+// The tables as one array. It is made once in a call and lent down from there: indexing a constant copies it at each lookup.
+#[derive(Drop)]
+pub struct Joined {
+    words: [u32; 1024],
+    ghost is_joined: { words ≡ joined },
+}
+
+impl Joined {
+    pub fn new() -> Joined {
+        let words = JOINED;
+        Joined { words }
+    }
+
+    // Table k at byte b.
+    pub fn entry(&self, k: usize, b: u8) -> u32
+        requires { k < 4 }
+        ensures { result ≡ entry k b }
+    {
+        self.words[256 * k + b as usize]
+    }
 }

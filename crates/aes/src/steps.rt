@@ -1,0 +1,37 @@
+// What does a round. FIPS 197's own steps go by the table of 256.
+ghost use Rattle.std.specs.Prelude.{◌≡◌, ℕ, ◌≤◌};
+ghost use Rattle.aes.specs.Cipher.{round as round_of, rounds as rounds_of};
+
+use crate::state;
+use field::{Sbox, Substitution};
+
+pub trait Steps: Substitution {
+    ghost AT_ONCE: { ℕ };
+
+    // How many of the first rounds are done at once, with no loop.
+    const AT_ONCE: usize;
+
+    fn round(&self, w: &[u8; 240], n: usize, s: [[u8; 4]; 4]) -> [[u8; 4]; 4]
+        requires { n ≤ 14 }
+        ensures { result ≡ round_of w.now n s };
+
+    fn first_rounds(&self, w: &[u8; 240], first: [[u8; 4]; 4]) -> [[u8; 4]; 4]
+        ensures { result ≡ rounds_of w.now AT_ONCE first };
+}
+
+impl Steps for Sbox {
+    ghost AT_ONCE = { 0 };
+
+    const AT_ONCE: usize = 0;
+
+    fn round(&self, w: &[u8; 240], n: usize, s: [[u8; 4]; 4]) -> [[u8; 4]; 4] {
+        let a = state::sub_bytes(self, s);
+        let b = state::shift_rows(a);
+        let c = state::mix_columns(b);
+        state::add_round_key(w, n, c)
+    }
+
+    fn first_rounds(&self, _w: &[u8; 240], first: [[u8; 4]; 4]) -> [[u8; 4]; 4] {
+        first
+    }
+}
