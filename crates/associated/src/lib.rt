@@ -20,6 +20,18 @@ mod serial;
 
 pub use data::first_q;
 
+// What a call names besides its key and its message: its edition, with the form, the nonce, the associated data and the tag's length.
+// The lengths are among those that the checks let pass.
+#[derive(Clone, Copy)]
+pub struct Settings<'a> {
+    pub edition: Edition,
+    pub nonce: &'a [u8],
+    pub ad: &'a [u8],
+    pub tag: usize,
+    ghost nonce_length: { (1 ≤ length nonce.now) × (length nonce.now ≤ 15) },
+    ghost tag_length: { tag ≤ 16 },
+}
+
 // U or δ, and what is XORed into the tag.
 #[derive(Clone, Copy)]
 pub struct SealsWith {
@@ -38,23 +50,15 @@ fn ta(edition: Edition, e: &Cipher, q: [u8; 16], a: &[u8]) -> Ran<[u8; 16]>
     }
 }
 
-// What a call seals with, for the nonce n and the associated data a.
-pub fn seals_with(
-    edition: Edition,
-    e: &Cipher,
-    q: [u8; 16],
-    n: &[u8],
-    a: &[u8],
-    t: usize,
-) -> Ran<SealsWith>
-    requires lengths { (1 ≤ length n.now) × ((length n.now ≤ 15) × (t ≤ 16)) }
-    ensures u_value { result.value.u ≡ u_of (cipher_under e.now) q edition n.now a.now t }
-    ensures added_value { result.value.added ≡ added_of (cipher_under e.now) q edition n.now a.now t }
-    ensures runs_value { result.runs ≡ length (call_inputs (cipher_under e.now) q edition n.now a.now t) }
+// What a call with settings s seals with.
+pub fn seals_with(e: &Cipher, q: [u8; 16], s: &Settings) -> Ran<SealsWith>
+    ensures u_value { result.value.u ≡ u_of (cipher_under e.now) q s.now.edition s.now.nonce.now s.now.ad.now s.now.tag }
+    ensures added_value { result.value.added ≡ added_of (cipher_under e.now) q s.now.edition s.now.nonce.now s.now.ad.now s.now.tag }
+    ensures runs_value { result.runs ≡ length (call_inputs (cipher_under e.now) q s.now.edition s.now.nonce.now s.now.ad.now s.now.tag) }
 {
-    let v = e.encrypt(nonce::nonce_block(edition, t, n));
-    let Ran { value: ta, runs } = ta(edition, e, q, a);
-    let value = match edition.form() {
+    let v = e.encrypt(nonce::nonce_block(s.edition, s.tag, s.nonce));
+    let Ran { value: ta, runs } = ta(s.edition, e, q, s.ad);
+    let value = match s.edition.form() {
         Form::Parallel => SealsWith { u: v, added: ta },
         Form::Serial => SealsWith {
             u: v.xor(ta).double(),

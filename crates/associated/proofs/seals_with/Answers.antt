@@ -6,4 +6,4 @@ use Rattle.associated.proofs.seals_with.Goals as goal
 
 pub overflow_add-result : goal.overflow_add-result
 overflow_add-result c =
-    record { fits = omega (arith, length-ta_inputs (cipher_under c.args.e.now) c.args.q c.args.edition c.args.a.now) }
+    record { fits = omega (arith, length-ta_inputs (cipher_under c.args.e.now) c.args.q c.args.s.now.edition c.args.s.now.ad.now) }
