@@ -6,7 +6,9 @@ use Prim.Native.Nat.{ℕ, zero, suc, ◌+◌, ◌-◌, ◌≤◌, ◌<◌}
 use native.Mathlib.Nat.{add-zero, suc-add}
 use native.Mathlib.Omega.{arith}
 use native.Mathlib.Numerals.{add-one}
+use borrow.Rule.Slice.PartMut.{put_mid}
 use lib.ListN.{length, get_or, set, take, drop}
+use Rattle.std.proofs.lemmas.List.{drop-drop}
 use Rattle.lists.specs.Lay.{lay}
 use Rattle.lists.specs.Zeros.{zeros}
 use Rattle.lists.proofs.Zeros.{length-zeros}
@@ -15,7 +17,7 @@ use Rattle.mode.specs.Nonce.{tag_byte, tag_part, format}
 use Rattle.mode.proofs.Format.{zeros_plus}
 
 -- the tag byte stored into zeros
-pub tag_stored : (t : ℕ) (b : List ℕ) → b ≡ zeros 16 → set b 0 (tag_byte t) ≡ tag_part t
+tag_stored : (t : ℕ) (b : List ℕ) → b ≡ zeros 16 → set b 0 (tag_byte t) ≡ tag_part t
 unfolding zeros
 tag_stored t b e = ap (λ (l : List ℕ). set l 0 (tag_byte t)) e
 
@@ -47,9 +49,22 @@ added (suc j) zero h n e = absurd (omega arith)
 added (suc j) (suc m) h n e =
     lay_cons h (suc j) n (set (0 ∷ zeros m) j (get_or (0 ∷ zeros m) j 0 + 1)) ∙ ap₂ ◌∷◌ (sym (add-zero h)) (added j m 0 n (omega arith))
 
-pub formatted : (t : ℕ) (n : List ℕ) → length n ≤ 15
+formatted_from : (t : ℕ) (n : List ℕ) → length n ≤ 15
     → lay (15 - length n + 1) n (set (tag_part t) (15 - length n) (get_or (tag_part t) (15 - length n) 0 + 1)) ≡ format t n
 unfolding format
-formatted t n most =
+formatted_from t n most =
     let j = 15 - length n in
     ap (λ (i : ℕ). lay i n (set (tag_part t) j (get_or (tag_part t) j 0 + 1))) (add-one j) ∙ added j 15 (tag_byte t) n (omega arith)
+
+-- a part of a list written from place i on, as the code's slices have it, and as it is laid
+put_is : (i k : ℕ) (out new : List ℕ) → k ≡ length new → put_mid i k out new ≡ lay i new out
+put_is i k out new h = ap (λ (l : List ℕ). take i out ++ (new ++ l)) (drop-drop k i out ∙ ap (λ (m : ℕ). drop (i + m) out) h)
+
+-- what the code puts together, from zeros b
+pub formatted : (t : ℕ) (n : List ℕ) → length n ≤ 15 → (b : List ℕ) → b ≡ zeros 16
+    → put_mid (15 - length n + 1) (16 - (15 - length n + 1)) (set (set b 0 (tag_byte t)) (15 - length n) (get_or (set b 0 (tag_byte t)) (15 - length n) 0 + 1)) n ≡ format t n
+formatted t n most b e =
+    let j = 15 - length n in
+    put_is (j + 1) (16 - (j + 1)) (set (set b 0 (tag_byte t)) j (get_or (set b 0 (tag_byte t)) j 0 + 1)) n (omega arith)
+    ∙ ap (λ (l : List ℕ). lay (j + 1) n (set l j (get_or l j 0 + 1))) (tag_stored t b e)
+    ∙ formatted_from t n most

@@ -1,8 +1,9 @@
 // The nonce block of each edition.
-ghost use Rattle.std.specs.Prelude.{◌≡◌, ℕ, ◌≤◌, length};
+ghost use Rattle.std.specs.Prelude.{◌≡◌, ◌≤◌, length};
 ghost use Rattle.block.specs.Block.{pad};
-ghost use Rattle.mode.specs.Edition.{edition_of};
 ghost use Rattle.mode.specs.Nonce.{format as format_of, nonce_block};
+
+use mode::Edition;
 
 fn format(t: usize, nonce: &[u8]) -> [u8; 16]
     requires lengths { (1 ≤ length nonce.now) × (length nonce.now ≤ 15) }
@@ -12,8 +13,8 @@ fn format(t: usize, nonce: &[u8]) -> [u8; 16]
     let marker = 15 - nonce.len();
     let mut b = block::zeros();
     b[0] = (2 * (8 * t % 128)) as u8;
-    b[marker] = b[marker] + 1;
-    lists::lay(&mut b, marker + 1, nonce);
+    b[marker] += 1;
+    b[marker + 1..].copy_from_slice(nonce);
     b
 }
 
@@ -25,14 +26,13 @@ fn padded(nonce: &[u8]) -> [u8; 16]
     block::pad(block::read(nonce, 0, k), k)
 }
 
-// In the edition with this number.
-pub fn nonce_block(edition: usize, t: usize, nonce: &[u8]) -> [u8; 16]
+pub fn nonce_block(edition: Edition, t: usize, nonce: &[u8]) -> [u8; 16]
     requires lengths { (1 ≤ length nonce.now) × (length nonce.now ≤ 15) }
     requires t_bound { t ≤ 16 }
-    ensures { (form : ℕ) → result ≡ nonce_block (edition_of edition form) t nonce.now }
+    ensures { result ≡ nonce_block edition t nonce.now }
 {
-    if edition == 1 {
-        return padded(nonce);
+    match edition {
+        Edition::V1 => padded(nonce),
+        Edition::V3(_) => format(t, nonce),
     }
-    format(t, nonce)
 }

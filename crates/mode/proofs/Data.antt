@@ -37,6 +37,33 @@ pub chain_step : (E : List ℕ → List ℕ) (n : ℕ) (a : List ℕ) → E (xor
 unfolding chain
 chain_step E n a = sym (ap (λ (j : ℕ). chain E j a) (add-one n))
 
+pub doubles_step : (i : ℕ) (x : List ℕ) → double (doubles i x) ≡ doubles (i + 1) x
+unfolding doubles
+doubles_step i x = sym (ap (λ (j : ℕ). doubles j x) (add-one i))
+
+-- ---- empty data, and data that is not
+module _ (E : List ℕ → List ℕ) (d : DataPass) where
+  pub ta_none : (a : List ℕ) → length a ≡ 0 → ta E d a ≡ zeros 16
+  unfolding ta
+  ta_none [] h = refl
+  ta_none (b ∷ bs) h = absurd (omega arith)
+
+  ta_some : (a : List ℕ) (n : ℕ) → 1 ≤ length a → n ≡ (length a - 1) / 16 → ta E d a ≡ data_end E d n a (drop (16 * n) a)
+  unfolding ta blocks
+  ta_some [] n some before = absurd (omega arith)
+  ta_some (b ∷ bs) n some before =
+      let is : blocks (length (b ∷ bs)) - 1 ≡ n = omega arith in
+      ap (λ (k : ℕ). data_end E d k (b ∷ bs) (drop (16 * k) (b ∷ bs))) is
+
+  -- the same from a mask and a Ξ that are the pass's own
+  pub ta_is : (a : List ℕ) (n : ℕ) → 1 ≤ length a → n ≡ (length a - 1) / 16
+      → (mask xi : List ℕ) → mask ≡ d.mask n (ltb (length a - 16 * n) 16) → xi ≡ d.xi n a
+      → E (xor mask (xor xi (pad (drop (16 * n) a)))) ≡ ta E d a
+  ta_is a n some before mask xi mask_is xi-is =
+      let x = drop (16 * n) a in
+      let long : length a - 16 * n ≡ length x = sym (length-drop (16 * n) a) in
+      ap₂ (λ (k s : List ℕ). E (xor k (xor s (pad x)))) (mask_is ∙ ap (λ (k : ℕ). d.mask n (ltb k 16)) long) xi-is ∙ sym (ta_some a n some before)
+
 -- ---- a pass of blocks: Ξ and the masks have 16 bytes
 record AreBlocks (d : DataPass) : Type 0 where
   xi : (n : ℕ) (a : List ℕ) → 16 * n ≤ length a → length (d.xi n a) ≡ 16
@@ -86,28 +113,6 @@ module _ (E : List ℕ → List ℕ) (e : IsCipher E) where
     are_blocks (V3 Serial) = record { xi = length-chain q hq; mask = λ n s. length-chain_final q hq s }
 
   module _ (d : DataPass) where
-    -- empty data, and data that is not
-    pub ta_none : (a : List ℕ) → length a ≡ 0 → ta E d a ≡ zeros 16
-    unfolding ta
-    ta_none [] h = refl
-    ta_none (b ∷ bs) h = absurd (omega arith)
-
-    ta_some : (a : List ℕ) (n : ℕ) → 1 ≤ length a → n ≡ (length a - 1) / 16 → ta E d a ≡ data_end E d n a (drop (16 * n) a)
-    unfolding ta blocks
-    ta_some [] n some before = absurd (omega arith)
-    ta_some (b ∷ bs) n some before =
-        let is : blocks (length (b ∷ bs)) - 1 ≡ n = omega arith in
-        ap (λ (k : ℕ). data_end E d k (b ∷ bs) (drop (16 * k) (b ∷ bs))) is
-
-    -- the same from a mask and a Ξ that are the pass's own
-    pub ta_is : (a : List ℕ) (n : ℕ) → 1 ≤ length a → n ≡ (length a - 1) / 16
-        → (mask xi : List ℕ) → mask ≡ d.mask n (ltb (length a - 16 * n) 16) → xi ≡ d.xi n a
-        → E (xor mask (xor xi (pad (drop (16 * n) a)))) ≡ ta E d a
-    ta_is a n some before mask xi mask_is xi-is =
-        let x = drop (16 * n) a in
-        let long : length a - 16 * n ≡ length x = sym (length-drop (16 * n) a) in
-        ap₂ (λ (k s : List ℕ). E (xor k (xor s (pad x)))) (mask_is ∙ ap (λ (k : ℕ). d.mask n (ltb k 16)) long) xi-is ∙ sym (ta_some a n some before)
-
     length-ta : AreBlocks d → (a : List ℕ) → length (ta E d a) ≡ 16
     unfolding ta blocks
     length-ta h [] = length-zeros 16
