@@ -4,10 +4,12 @@
 ghost use Rattle.std.specs.Prelude.{◌≡◌, ◌+◌, ◌*◌, ◌/◌, ◌%◌, ◌≤◌, length, take, drop};
 ghost use Rattle.lists.specs.Xor.{xor as xor_of};
 ghost use Rattle.lists.specs.Zeros.{zeros as zeros_of};
-ghost use Rattle.block.specs.Block.{filled, pad as pad_of, shift as shift_of, double as double_of, triple as triple_of, triple_twice, seven as seven_of};
+ghost use Rattle.block.specs.Block.{filled, pad as pad_of, shift as shift_of, double as double_of};
 
+mod kind;
 mod wide;
 
+pub use kind::{Block, seven, triple, triple_twice};
 pub use wide::{double_big, double_words, from_words, shift_big, to_words, turn_words, xor_words};
 
 pub fn zeros() -> [u8; 16]
@@ -87,23 +89,4 @@ pub fn double(x: [u8; 16]) -> [u8; 16]
         d[15] = d[15] ^ 0x87;
     }
     d
-}
-
-pub fn triple(x: [u8; 16]) -> [u8; 16]
-    ensures { result ≡ triple_of x }
-{
-    xor(double(x), x)
-}
-
-pub fn triple_twice(x: [u8; 16]) -> [u8; 16]
-    ensures { result ≡ triple_twice x }
-{
-    triple(triple(x))
-}
-
-pub fn seven(x: [u8; 16]) -> [u8; 16]
-    ensures { result ≡ seven_of x }
-{
-    let d = double(x);
-    xor(xor(double(d), d), x)
 }
