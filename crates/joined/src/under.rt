@@ -38,6 +38,17 @@ impl Cipher {
         }
     }
 
+    // The round keys, for a call that goes on under them later.
+    pub fn round_keys(&self) -> RoundKeys
+        ensures { result ≡ self.now }
+    {
+        let words = self.words;
+        RoundKeys {
+            rounds: self.rounds,
+            words,
+        }
+    }
+
     pub fn encrypt(&self, block: [u8; 16]) -> [u8; 16]
         ensures { result ≡ cipher_under self.now block }
     {

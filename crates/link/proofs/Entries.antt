@@ -13,6 +13,8 @@ use Rattle.lists.specs.Zeros.{zeros}
 use Rattle.aes.specs.Cipher.{cipher}
 use Rattle.aes.specs.Expansion.{key_rounds, key_expansion, aes}
 use Rattle.aes.specs.Key.{expanded}
+use Rattle.aes.specs.Under.{cipher_under}
+use Rattle.aes.specs.declared.key.RoundKeys.{RoundKeys}
 use Rattle.aes.proofs.Keys.{Usable, usable}
 use Rattle.mode.specs.Edition.{edition_of}
 use Rattle.mode.specs.declared.edition.Edition.{Edition}
@@ -28,11 +30,10 @@ use Rattle.pairs.proofs.Cipher.{is_cipher, length-ta}
 use Rattle.std.specs.Prelude.{Ok, Err}
 use Rattle.link.specs.Answers.{Answer, done}
 use Rattle.link.specs.Checks.{Check, known_key, known_rounds, call_check, seal_next, open_next}
-use Rattle.link.specs.Prepared.{cipher_of, record_of, own_of}
-use Rattle.link.specs.Promises.{sealing, seal_runs, open_runs, SealsBy, opened_as, OpensBy, sealing_with, seal_runs_with, open_runs_with}
+use Rattle.link.specs.Prepared.{cipher_of, record_of}
+use Rattle.link.specs.Promises.{sealing, seal_runs, open_runs, SealsBy, opened_as, OpensBy}
 use Rattle.link.specs.declared.answer.Refusal.{Refusal}
 use Rattle.link.specs.declared.answer.Refusal.TheVariants.{Forged}
-use Rattle.link.specs.declared.prepared.Own.{Own}
 use Rattle.link.specs.declared.prepared.Prepared.{Prepared}
 use Rattle.link.proofs.Known.{size_known, known_rounds_lem}
 use Rattle.link.proofs.Verdicts.{sure, SealFits, OpenFits, seal_verdict, open_verdict}
@@ -99,14 +100,14 @@ module _ (key : List ℕ) (known : known_key (length key) ≡ true) where
   keyed : Usable key
   keyed =
       let s = size_known (length key) known in
-      usable key s.0 s.1 s.2
+      usable key s.0 s.1
 
   -- the round count that a call takes from its record, and the cipher under it
   pub rounds_in : (10 ≤ (expanded key).rounds) × ((expanded key).rounds ≤ 14)
   rounds_in = (omega (arith, keyed.rounds, keyed.least), omega (arith, keyed.rounds, keyed.most))
 
   pub rounds_known_lem : known_rounds (expanded key).rounds ≡ true
-  rounds_known_lem = ap known_rounds keyed.rounds ∙ known_rounds_lem (length key) _ _ keyed.known
+  rounds_known_lem = ap known_rounds keyed.rounds ∙ known_rounds_lem (length key) _ keyed.known
 
   pub cipher_is : cipher (expanded key).rounds (expanded key).words ≡ aes key
   cipher_is = fun_ext keyed.ciphers
@@ -115,30 +116,33 @@ module _ (key : List ℕ) (known : known_key (length key) ≡ true) where
   pub under_record : {A : Type 0} (f : (List ℕ → List ℕ) → List ℕ → A) (p : Prepared) (q : List ℕ) → p ≡ record_of key q → f (cipher_of p) p.zero ≡ f (aes key) q
   under_record f p q is = ap (λ (x : Prepared). f (cipher_of x) x.zero) is ∙ ap (λ (E : List ℕ → List ℕ). f E q) cipher_is
 
-  -- under the record of its own a call with a raw key seals and opens as under the key, and its runs and those for the record are the
+  -- under the cipher of its own a call with a raw key seals and opens as under the key, and its runs and those for the first mask are the
   -- key's. c is what the checks came to, i bytes
-  module _ (edition form : ℕ) (nonce ad : List ℕ) (t : ℕ) (o : Own) (is : o ≡ own_of key (with_data ad)) where
-    under_key : {A : Type 0} (f : (List ℕ → List ℕ) → List ℕ → A) → f (cipher_of o.key) o.key.zero ≡ f (aes key) (first_q (aes key) (with_data ad))
-    under_key f = under_record f o.key (first_q (aes key) (with_data ad)) (ap (λ (x : Own). x.key) is)
+  module _
+    (edition form : ℕ) (nonce ad : List ℕ) (t : ℕ) (e : RoundKeys) (q : List ℕ) (n : ℕ) (is : e ≡ expanded key)
+    (q_is : q ≡ first_q (cipher_under e) (with_data ad)) (n_is : n ≡ length (q_inputs (with_data ad)))
+    where
+    E_is : cipher_under e ≡ aes key
+    E_is = ap cipher_under is ∙ cipher_is
 
-    sealing_is : sealing_with edition form o.key nonce ad t ≡ sealing edition form key nonce ad t
-    sealing_is = under_key (λ E q. otr_from E q (edition_of edition form) nonce ad t) ∙ own_otr (aes key) (edition_of edition form) nonce t ad
+    under_key : {A : Type 0} (f : (List ℕ → List ℕ) → List ℕ → A) → f (cipher_under e) q ≡ f (aes key) (first_q (aes key) (with_data ad))
+    under_key f = ap₂ f E_is (q_is ∙ ap (λ (E : List ℕ → List ℕ). first_q E (with_data ad)) E_is)
 
-    runs_of : o.runs ≡ length (q_inputs (with_data ad))
-    runs_of = ap (λ (x : Own). x.runs) is
+    sealing_is : otr_from (cipher_under e) q (edition_of edition form) nonce ad t ≡ sealing edition form key nonce ad t
+    sealing_is = under_key (λ E x. otr_from E x (edition_of edition form) nonce ad t) ∙ own_otr (aes key) (edition_of edition form) nonce t ad
 
     pub own_seals : (c : Check) (i : ℕ) → c ≡ Ok i → (m out : List ℕ) (r : Answer) (after : List ℕ)
-        → SealsBy (Ok i) (o.runs + seal_runs_with edition form o.key nonce ad t m) (sealing_with edition form o.key nonce ad t m) out r after
+        → SealsBy (Ok i) (n + length (from_inputs (cipher_under e) q (edition_of edition form) nonce ad t m)) (otr_from (cipher_under e) q (edition_of edition form) nonce ad t m) out r after
         → SealsBy c (seal_runs edition form key nonce ad t m) (sealing edition form key nonce ad t m) out r after
     own_seals c i come m out r after p =
-        let runs_are = ap₂ ◌+◌ runs_of (under_key (λ E q. length (from_inputs E q (edition_of edition form) nonce ad t m))) ∙ own_runs (aes key) (edition_of edition form) nonce t ad m in
+        let runs_are = ap₂ ◌+◌ n_is (under_key (λ E x. length (from_inputs E x (edition_of edition form) nonce ad t m))) ∙ own_runs (aes key) (edition_of edition form) nonce t ad m in
         come_to_seal c i come _ _ _ _ out r after runs_are (ap (λ (seal : List ℕ → List ℕ). seal m) sealing_is) p
 
     pub own_opens : (c : Check) (i : ℕ) → c ≡ Ok i → (s out : List ℕ) (r : Answer) (after : List ℕ)
-        → OpensBy (Ok i) (o.runs + open_runs_with edition form o.key nonce ad t s) (sealing_with edition form o.key nonce ad t) s out r after
+        → OpensBy (Ok i) (n + length (found_from_inputs (cipher_under e) q (edition_of edition form) nonce ad t s)) (otr_from (cipher_under e) q (edition_of edition form) nonce ad t) s out r after
         → OpensBy c (open_runs edition form key nonce ad t s) (sealing edition form key nonce ad t) s out r after
     own_opens c i come s out r after p =
-        let runs_are = ap₂ ◌+◌ runs_of (under_key (λ E q. length (found_from_inputs E q (edition_of edition form) nonce ad t s))) ∙ own_found_runs (aes key) (edition_of edition form) nonce t ad s in
+        let runs_are = ap₂ ◌+◌ n_is (under_key (λ E x. length (found_from_inputs E x (edition_of edition form) nonce ad t s))) ∙ own_found_runs (aes key) (edition_of edition form) nonce t ad s in
         come_to_open c i come _ _ _ _ s out r after runs_are sealing_is p
 
 pub aes_cipher : (key : List ℕ) → IsCipher (aes key)
@@ -150,12 +154,11 @@ pub aes_ta : (key : List ℕ) (f : Edition) (ad : List ℕ) → length (data_tag
 unfolding aes
 aes_ta key f ad = length-ta (key_rounds key) (key_expansion key) (aes key (zeros 16)) f ad
 
--- ---- opening: what the passes find is what sealing allows, whatever the record p is
-pub found_allowed : (edition form : ℕ) (p : Prepared) (nonce ad : List ℕ) (t : ℕ) (s : List ℕ) → length nonce ≤ 15 → t ≤ 16 → t ≤ length s
-    → Allowed (sealing_with edition form p nonce ad t) s (found_from (cipher_of p) p.zero (edition_of edition form) nonce ad t s)
-found_allowed edition form p nonce ad t s nonces tags long =
-    let f = edition_of edition form in
-    otr_opens (cipher_of p) (is_cipher p.rounds p.words) p.zero f nonce ad t (length-ta p.rounds p.words p.zero f ad) nonces tags s long
+-- ---- opening: what the passes find is what sealing allows, whatever the round keys and the first mask are
+pub found_allowed : (e : RoundKeys) (q : List ℕ) (f : Edition) (nonce ad : List ℕ) (t : ℕ) (s : List ℕ) → length nonce ≤ 15 → t ≤ 16 → t ≤ length s
+    → Allowed (otr_from (cipher_under e) q f nonce ad t) s (found_from (cipher_under e) q f nonce ad t s)
+found_allowed e q f nonce ad t s nonces tags long =
+    otr_opens (cipher_under e) (is_cipher e.rounds e.words) q f nonce ad t (length-ta e.rounds e.words q f ad) nonces tags s long
 
 -- the answer, by the flag that the passes give
 pub flag_done : (n k : ℕ) (o : Opened) → flag o ≡ true → done n k ≡ opened_as n k o

@@ -4,13 +4,11 @@ use Rattle.lists.specs.Zeros.{zeros}
 use Rattle.aes.specs.Cipher.{cipher}
 use Rattle.aes.specs.Expansion.{aes}
 use Rattle.aes.specs.Key.{expanded}
-use Rattle.mode.specs.Data.{first_q, q_inputs}
 use Rattle.link.specs.Answers.{done}
 use Rattle.link.specs.Checks.{known_key}
 use Rattle.link.specs.declared.answer.Refusal.TheVariants.{Key}
 use Rattle.link.specs.declared.prepared.Prepared.{Prepared}
 use Rattle.link.specs.declared.prepared.Preparation.{Preparation}
-use Rattle.link.specs.declared.prepared.Own.{Own}
 
 -- the cipher of a record, whoever made it: that of its round count over its round keys
 abbrev pub cipher_of : Prepared → List ℕ → List ℕ
@@ -28,8 +26,3 @@ prepared_if false key = record { answer = Err Key; key = record { rounds = 0; wo
 
 unfoldable pub preparation : List ℕ → Preparation
 preparation key = prepared_if (known_key (length key)) key
-
--- ---- what a call makes of a raw key, which no promise speaks of: a record of its own, with E(zero) where it is needed, and how many
--- times the cipher ran for it
-abbrev pub own_of : List ℕ → Bool → Own
-own_of key needed = record { key = record_of key (first_q (aes key) needed); runs = length (q_inputs needed) }

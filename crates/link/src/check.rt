@@ -4,7 +4,6 @@ ghost use Rattle.std.specs.Prelude.{◌≡◌};
 ghost use Rattle.link.specs.Checks.{from_to as between, known_edition, last_form, known_key, known_rounds, call_check, seal_next, open_next};
 
 use crate::answer::Refusal;
-use aes::KeySize;
 
 // Whether a is from l to h.
 pub fn from_to(l: usize, h: usize, a: usize) -> bool
@@ -17,11 +16,7 @@ pub fn from_to(l: usize, h: usize, a: usize) -> bool
 pub fn known_edition(edition: usize) -> bool
     ensures { result ≡ known_edition edition }
 {
-    match edition {
-        1 => true,
-        3 => true,
-        _ => false,
-    }
+    matches!(edition, 1 | 3)
 }
 
 // For check 8, the last form that an edition has.
@@ -38,27 +33,14 @@ pub fn last_form(edition: usize) -> usize
 pub fn known_key(key: usize) -> bool
     ensures { result ≡ known_key key }
 {
-    let size = aes::key_size(key);
-    let KeySize::Known {
-        rounds: _,
-        words: _,
-    } = size
-    else {
-        return false;
-    };
-    true
+    aes::key_size(key).is_some()
 }
 
 // Check 1, for a prepared key of so many rounds.
 pub fn known_rounds(rounds: usize) -> bool
     ensures { result ≡ known_rounds rounds }
 {
-    match rounds {
-        10 => true,
-        12 => true,
-        14 => true,
-        _ => false,
-    }
+    matches!(rounds, 10 | 12 | 14)
 }
 
 // The checks that all calls share. Check 1 has been looked at: the key is known, or it is not.

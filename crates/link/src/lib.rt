@@ -1,7 +1,7 @@
 // The sealed link: AES-OTR, sealed and opened in one call each, in edition 3, v3.1 with parallel (form 0) or serial (form 1) associated
 // data, or in edition 1, v1 with parallel data, under a raw key or under a prepared one. No entry point asks anything of its caller; what
-// they promise is in specs/Promises.antt and specs/Prepared.antt. The checks and `own_record` are public for `sealer` and `engines`, which
-// begin as a call with a raw key does.
+// they promise is in specs/Promises.antt and specs/Prepared.antt. The checks, `own_cipher` and `own_mask` are public for `sealer` and
+// `engines`, which begin as a call with a raw key does.
 #![tactic(auto)]
 
 ghost use Rattle.link.specs.Promises.{Seals, Opens, SealsWith, OpensWith};
@@ -15,7 +15,11 @@ mod under;
 pub use answer::{Answer, Done, Refusal, length, number, runs};
 pub use check::{call_check, from_to, known_key, known_rounds, seal_check};
 pub use parameters::Parameters;
-pub use prepared::{Own, Preparation, Prepared, own_record, prepare};
+pub use prepared::{Preparation, Prepared, own_cipher, own_mask, prepare};
+
+use associated::Settings;
+use joined::Ran;
+use mode::Edition;
 
 pub fn seal(
     edition: usize,
@@ -40,12 +44,15 @@ pub fn seal(
         message.len(),
         out.len(),
     )?;
-    let tables = tables::joined();
-    let own = prepared::own_record(&tables, key, ad);
-    let made = own.key;
-    under::seal(
-        edition, form, &tables, made, own.runs, nonce, ad, message, tag, out,
-    )
+    let e = prepared::own_cipher(key);
+    let Ran { value: q, runs } = prepared::own_mask(&e, ad);
+    let s = Settings {
+        edition: Edition::numbered(edition, form),
+        nonce,
+        ad,
+        tag,
+    };
+    under::seal(&e, q, runs, &s, message, out)
 }
 
 pub fn open(
@@ -71,12 +78,15 @@ pub fn open(
         sealed.len(),
         out.len(),
     )?;
-    let tables = tables::joined();
-    let own = prepared::own_record(&tables, key, ad);
-    let made = own.key;
-    under::open(
-        edition, form, &tables, made, own.runs, nonce, ad, sealed, tag, out,
-    )
+    let e = prepared::own_cipher(key);
+    let Ran { value: q, runs } = prepared::own_mask(&e, ad);
+    let s = Settings {
+        edition: Edition::numbered(edition, form),
+        nonce,
+        ad,
+        tag,
+    };
+    under::open(&e, q, runs, &s, sealed, out)
 }
 
 // The same two under a prepared key, whoever made it.
@@ -103,8 +113,13 @@ pub fn seal_with(
         message.len(),
         out.len(),
     )?;
-    let tables = tables::joined();
-    under::seal(edition, form, &tables, key, 0, nonce, ad, message, tag, out)
+    let s = Settings {
+        edition: Edition::numbered(edition, form),
+        nonce,
+        ad,
+        tag,
+    };
+    under::seal(&key.cipher(), key.zero, 0, &s, message, out)
 }
 
 pub fn open_with(
@@ -130,6 +145,11 @@ pub fn open_with(
         sealed.len(),
         out.len(),
     )?;
-    let tables = tables::joined();
-    under::open(edition, form, &tables, key, 0, nonce, ad, sealed, tag, out)
+    let s = Settings {
+        edition: Edition::numbered(edition, form),
+        nonce,
+        ad,
+        tag,
+    };
+    under::open(&key.cipher(), key.zero, 0, &s, sealed, out)
 }

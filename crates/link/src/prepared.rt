@@ -1,12 +1,15 @@
 // A prepared key (document 02, wish 9): what every pass takes of a key, worked out once.
-ghost use Rattle.std.specs.Prelude.{◌≡◌, true, length};
-ghost use Rattle.tables.specs.Joined.{joined};
-ghost use Rattle.mode.specs.Data.{with_data};
+ghost use Rattle.std.specs.Prelude.{◌≡◌, ◌≤◌, true, length};
+ghost use Rattle.aes.specs.Key.{expanded};
+ghost use Rattle.aes.specs.Under.{cipher_under};
+ghost use Rattle.mode.specs.Data.{first_q, q_inputs, with_data};
 ghost use Rattle.link.specs.Checks.{known_key};
-ghost use Rattle.link.specs.Prepared.{preparation, own_of};
+ghost use Rattle.link.specs.Prepared.{preparation};
 
 use crate::answer::{Answer, Done, Refusal};
-use crate::check;
+use aes::RoundKeys;
+use field::Sbox;
+use joined::{Cipher, Ran};
 
 // The round count, the round keys, and the first mask of the data pass. `prepare` gives a key's own, the round keys not used zero, and
 // E(zero) for the mask. A call takes whatever a record holds.
@@ -17,6 +20,20 @@ pub struct Prepared {
     pub zero: [u8; 16],
 }
 
+impl Prepared {
+    // E under the record, where its round count is one that it may have.
+    pub fn cipher(&self) -> Cipher
+        requires { (10 ≤ self.now.rounds) × (self.now.rounds ≤ 14) }
+        ensures { result ≡ record { rounds = self.now.rounds; words = self.now.words } }
+    {
+        let words = self.words;
+        Cipher::new(RoundKeys {
+            rounds: self.rounds,
+            words,
+        })
+    }
+}
+
 // The answer, done with no bytes written or the refusal 1, and the record.
 #[derive(Clone, Copy)]
 pub struct Preparation {
@@ -24,70 +41,48 @@ pub struct Preparation {
     pub key: Prepared,
 }
 
-// A record of a call's own, and how many times the cipher ran for it.
-#[derive(Clone, Copy)]
-pub struct Own {
-    pub key: Prepared,
-    pub runs: usize,
+// E under a raw key that is known.
+pub fn own_cipher(key: &[u8]) -> Cipher
+    requires { known_key (length key.now) ≡ true }
+    ensures { result ≡ expanded key.now }
+{
+    let sbox = Sbox::new();
+    let keys = aes::expand(&sbox, key).unwrap();
+    Cipher::new(keys)
 }
 
-// The record of a raw key, with E(zero) where it is needed.
-fn record_of(tables: &[u32; 1024], key: &[u8], needed: bool) -> Own
-    requires table_lent { tables.now ≡ joined }
-    requires known { known_key (length key.now) ≡ true }
-    ensures { result ≡ own_of key.now needed }
+// The first mask that a call under a raw key gives its data pass: E(zero), which that needs only where there is data.
+pub fn own_mask(e: &Cipher, ad: &[u8]) -> Ran<[u8; 16]>
+    ensures block_value { result.value ≡ first_q (cipher_under e.now) (with_data ad.now) }
+    ensures runs_value { result.runs ≡ length (q_inputs (with_data ad.now)) }
 {
-    let table = field::sbox();
-    let keys = aes::expand(&table, key);
-    let nr = keys.rounds;
-    let w = keys.words;
-    let first = associated::first_q(tables, &w, nr, needed);
-    let q = first.block;
-    let made = Prepared {
-        rounds: nr,
-        words: w,
-        zero: q,
-    };
-    Own {
-        key: made,
-        runs: first.runs,
-    }
-}
-
-// The record that a call with a raw key makes of it. The data pass needs E(zero) only where there is data.
-pub fn own_record(tables: &[u32; 1024], key: &[u8], ad: &[u8]) -> Own
-    requires table_lent { tables.now ≡ joined }
-    requires known { known_key (length key.now) ≡ true }
-    ensures { result ≡ own_of key.now (with_data ad.now) }
-{
-    record_of(tables, key, 0 < ad.len())
+    associated::first_q(e, 0 < ad.len())
 }
 
 #[tactic(auto, unfolding(crate::specs::Prepared::preparation))]
 pub fn prepare(key: &[u8]) -> Preparation
     ensures { result ≡ preparation key.now }
 {
-    if !check::known_key(key.len()) {
-        let w = aes::blank();
-        let q = block::zeros();
-        let made = Prepared {
-            rounds: 0,
-            words: w,
-            zero: q,
-        };
+    let sbox = Sbox::new();
+    let Some(keys) = aes::expand(&sbox, key) else {
         return Preparation {
             answer: Err(Refusal::Key),
-            key: made,
+            key: Prepared {
+                rounds: 0,
+                words: [0; 240],
+                zero: [0; 16],
+            },
         };
-    }
-    let tables = tables::joined();
-    let own = record_of(&tables, key, true);
-    let made = own.key;
+    };
+    let e = Cipher::new(keys);
+    let Ran { value: zero, runs } = associated::first_q(&e, true);
+    let words = keys.words;
     Preparation {
-        answer: Ok(Done {
-            length: 0,
-            runs: own.runs,
-        }),
-        key: made,
+        answer: Ok(Done { length: 0, runs }),
+        key: Prepared {
+            rounds: keys.rounds,
+            words,
+            zero,
+        },
     }
 }

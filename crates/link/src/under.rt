@@ -1,70 +1,54 @@
-// What a call does under a prepared key once its checks have passed, whoever made the record. `before` is how many times the cipher ran
-// for the record itself.
-ghost use Rattle.std.specs.Prelude.{◌≡◌, ◌+◌, ◌-◌, ◌≤◌, length};
-ghost use Rattle.tables.specs.Joined.{joined};
-ghost use Rattle.link.specs.Promises.{sealing_with, seal_runs_with, open_runs_with, SealsBy, OpensBy};
+// What a call does under a key once its checks have passed, whoever made the key's record. e is the cipher under it, q the first mask of
+// the data pass, and `before` how many times the cipher ran for these.
+ghost use Rattle.std.specs.Prelude.{◌≡◌, ◌+◌, ◌-◌, ◌≤◌, length, Ok};
+ghost use Rattle.aes.specs.Under.{cipher_under};
+ghost use Rattle.mode.specs.Sealing.{otr_from, from_inputs};
+ghost use Rattle.mode.specs.Undoing.{found_from_inputs};
+ghost use Rattle.link.specs.Promises.{SealsBy, OpensBy};
 
 use crate::answer::{Answer, Done, Refusal};
-use crate::prepared::Prepared;
+use associated::Settings;
+use joined::{Cipher, Ran};
 
 pub fn seal(
-    edition: usize,
-    form: usize,
-    tables: &[u32; 1024],
-    key: Prepared,
+    e: &Cipher,
+    q: [u8; 16],
     before: usize,
-    nonce: &[u8],
-    ad: &[u8],
+    s: &Settings,
     message: &[u8],
-    tag: usize,
     out: &mut [u8],
 ) -> Answer
-    requires table_lent { tables.now ≡ joined }
-    requires round_count { (10 ≤ key.rounds) × (key.rounds ≤ 14) }
-    requires lengths { (1 ≤ length nonce.now) × ((length nonce.now ≤ 15) × (tag ≤ 16)) }
-    requires room { (length message.now + tag ≤ length out.old) × (before ≤ 1) }
-    ensures { SealsBy (Ok (length message.now + tag)) (before + seal_runs_with edition form key nonce.now ad.now tag message.now) (sealing_with edition form key nonce.now ad.now tag message.now) out.old result out.new }
+    requires room { (length message.now + s.now.tag ≤ length out.old) × (before ≤ 1) }
+    ensures { SealsBy (Ok (length message.now + s.now.tag)) (before + length (from_inputs (cipher_under e.now) q s.now.edition s.now.nonce.now s.now.ad.now s.now.tag message.now)) (otr_from (cipher_under e.now) q s.now.edition s.now.nonce.now s.now.ad.now s.now.tag message.now) out.old result out.new }
 {
-    let nr = key.rounds;
-    let q = key.zero;
-    let ran = passes::seal(
-        edition, form, tables, &key.words, nr, q, nonce, ad, message, tag, out,
-    );
+    let ran = passes::seal(e, q, s, message, out);
     Ok(Done {
-        length: message.len() + tag,
+        length: message.len() + s.tag,
         runs: before + ran,
     })
 }
 
 pub fn open(
-    edition: usize,
-    form: usize,
-    tables: &[u32; 1024],
-    key: Prepared,
+    e: &Cipher,
+    q: [u8; 16],
     before: usize,
-    nonce: &[u8],
-    ad: &[u8],
+    s: &Settings,
     sealed: &[u8],
-    tag: usize,
     out: &mut [u8],
 ) -> Answer
-    requires table_lent { tables.now ≡ joined }
-    requires round_count { (10 ≤ key.rounds) × (key.rounds ≤ 14) }
-    requires lengths { (1 ≤ length nonce.now) × ((length nonce.now ≤ 15) × (tag ≤ 16)) }
-    requires room { (tag ≤ length sealed.now) × ((length sealed.now - tag ≤ length out.old) × (before ≤ 1)) }
-    ensures { OpensBy (Ok (length sealed.now - tag)) (before + open_runs_with edition form key nonce.now ad.now tag sealed.now) (sealing_with edition form key nonce.now ad.now tag) sealed.now out.old result out.new }
+    requires room { (s.now.tag ≤ length sealed.now) × ((length sealed.now - s.now.tag ≤ length out.old) × (before ≤ 1)) }
+    ensures { OpensBy (Ok (length sealed.now - s.now.tag)) (before + length (found_from_inputs (cipher_under e.now) q s.now.edition s.now.nonce.now s.now.ad.now s.now.tag sealed.now)) (otr_from (cipher_under e.now) q s.now.edition s.now.nonce.now s.now.ad.now s.now.tag) sealed.now out.old result out.new }
 {
-    let nr = key.rounds;
-    let q = key.zero;
-    let opening = passes::open(
-        edition, form, tables, &key.words, nr, q, nonce, ad, sealed, tag, out,
-    );
-    let ran = before + opening.runs;
-    if opening.matches {
-        return Ok(Done {
-            length: sealed.len() - tag,
-            runs: ran,
-        });
+    let Ran {
+        value: matches,
+        runs,
+    } = passes::open(e, q, s, sealed, out);
+    let runs = before + runs;
+    if !matches {
+        return Err(Refusal::Forged { runs });
     }
-    Err(Refusal::Forged { runs: ran })
+    Ok(Done {
+        length: sealed.len() - s.tag,
+        runs,
+    })
 }
