@@ -1,20 +1,14 @@
 -- One turn of each loop, over any cipher and any masks. Assumes nothing.
-use mathlib.Core.Path.{◌≡◌, sym, ap, ap₂, ◌∙◌}
+use mathlib.Core.Path.{◌≡◌, ap, ap₂, ◌∙◌}
 use mathlib.Core.List.{List}
 use Prim.Native.Nat.{ℕ, ◌+◌, ◌*◌, ◌≤◌}
-use native.Mathlib.Numerals.{add-one}
 use native.Mathlib.Omega.{arith}
 use lib.ListN.{length}
 use Rattle.lists.specs.Lay.{lay}
 use Rattle.lists.proofs.Laid.{lay-lay}
-use Rattle.block.specs.Block.{double}
-use Rattle.mode.specs.Masks.{Masks, IsCipher, AreMasks, doubles}
+use Rattle.mode.specs.Masks.{Masks, IsCipher, AreMasks}
 use Rattle.mode.specs.Message.{block, pair, pairs}
 use Rattle.mode.proofs.Pairs.{here, pairs_step, length_pairs, length_here}
-
-pub doubles_step : (i : ℕ) (x : List ℕ) → double (doubles i x) ≡ doubles (i + 1) x
-unfolding doubles
-doubles_step i x = sym (ap (λ (j : ℕ). doubles j x) (add-one i))
 
 -- ---- the pairs of m into out
 module _ (E : List ℕ → List ℕ) (e : IsCipher E) (k : Masks) (s : AreMasks k) (m out : List ℕ) where

@@ -106,7 +106,7 @@ module _ (E : List ℕ → List ℕ) (e : IsCipher E) (s : State) (held n : ℕ)
   count_is = omega (arith, d.count, d.some, ap pairs_of y_long)
 
   -- so many bytes lie behind the first pair
-  pub tail_most : (32 * (n - 1) ≤ length part - (32 - held)) × (length part - (32 - held) ≤ 32 * (n - 1) + 32) × (32 ≤ held + length part)
+  tail_most : (32 * (n - 1) ≤ length part - (32 - held)) × (length part - (32 - held) ≤ 32 * (n - 1) + 32) × (32 ≤ held + length part)
   tail_most = (omega (arith, d.count, d.some, pairs_are (held + length part)), omega (arith, d.count, d.some, pairs_are (held + length part)), omega (arith, d.count, d.some, pairs_are (held + length part)))
 
   abbrev front : List ℕ

@@ -19,7 +19,6 @@ use Rattle.mode.proofs.Counts.{pairs_are, even_left}
 use Rattle.mode.proofs.Ends.{Remains, length-ending}
 use Rattle.mode.proofs.Walk.{remains}
 use Rattle.mode.proofs.Tag.{length-end_sum}
-use Rattle.mode.proofs.Runs.{length-ending_inputs}
 
 -- the end rules of doubled masks are those of v3.1
 pub final_doubled : (l r : List ℕ) (t : Bool) (b : List ℕ) → final (third l) t b ≡ final (doubled l r) t b
@@ -71,14 +70,6 @@ module _ (E : List ℕ → List ℕ) (e : IsCipher E) (k : Masks) (a : AreMasks 
       → i + j ≡ length (end_inputs E (record { masks = k; sum = s; kept = m }))
   runs_whole s i j hi hj =
       omega (arith, hi, hj, ap length inputs_whole, length-append (body_inputs E k m) (end_input E (record { masks = k; sum = s; kept = m }) ∷ []))
-
-  pub runs_few : (s : List ℕ) → length (end_inputs E (record { masks = k; sum = s; kept = m })) ≤ 3
-  runs_few s =
-      omega (
-        arith,
-        runs_whole s (length (ending_inputs E two (k.left 0) (k.right 0) m)) 1 refl refl,
-        length-ending_inputs E two (k.left 0) (k.right 0) m left_over,
-      )
 
   -- the tag's bytes y, laid behind what is kept
   pub end_laid : (y out : List ℕ) → length m + length y ≤ length out
