@@ -27,10 +27,7 @@ fn data_sum(e: &Cipher, first: [u8; 16], a: &[u8], n: usize) -> Ran<DataSum>
     let mut runs: usize = 0;
     for i in 0..n {
         let b = block::read_block(a, 16 * i);
-        let more = sum.xor(e.encrypt(q.xor(b)));
-        let next = q.double();
-        sum = more;
-        q = next;
+        (sum, q) = (sum.xor(e.encrypt(q.xor(b))), q.double());
         runs += 1;
     }
     Ran {
