@@ -1,14 +1,15 @@
 -- The test for two strings being the same says what it should. Assumes nothing.
 use mathlib.Core.Path.{◌≡◌, refl, sym, ap, ap₂, ◌∙◌}
-use mathlib.Core.Bool.{Bool, true, false, ◌&&◌}
-use mathlib.Core.List.{List, [], ◌∷◌, ◌++◌}
-use Prim.Native.Nat.{ℕ, ◌+◌, ◌<◌}
-use native.Mathlib.Numerals.{add-one}
+use mathlib.Core.Bool.{Bool, true, false, ◌&&◌, and_assoc}
+use mathlib.Core.List.{List, [], ◌∷◌}
+use Prim.Native.Nat.{ℕ}
 use native.Mathlib.Omega.{arith}
+use lib.Bits.{bit_or, bit_xor, xor_self}
 use lib.Dec.{eqb}
-use lib.ListN.{length, get_or, take}
-use lib.Seq.{take-suc, take-take, get_or-take}
 use borrow.Author.Tests.{eqb-true, eq-eqb}
+use Rattle.std.proofs.lemmas.Bool.Decides.{same_from_decides, Decides-eqb, Decides-and, Decides-like}
+use Rattle.std.proofs.lemmas.Nat.{le_or_l, le_or_r}
+use Rattle.lists.proofs.Bits.{xor-zero}
 use Rattle.lists.specs.Same.{same}
 
 and_left : (a b : Bool) → (a && b) ≡ true → a ≡ true
@@ -50,19 +51,14 @@ same_is false a b f g = go (same a b) refl
 pub not_same : (a b : List ℕ) → (a ≡ b → ⊥) → same a b ≡ false
 not_same a b h = sym (same_is false a b (λ z. absurd (let n : ◌≡◌ {A = ℕ} 0 1 = cc in omega arith)) (λ e. absurd (h e)))
 
--- ---- one byte more of two strings
-module _ (a b : List ℕ) (i : ℕ) (ha : i < length a) (hb : i < length b) where
-  pub take_more : take i a ≡ take i b → get_or a i 0 ≡ get_or b i 0 → take (i + 1) a ≡ take (i + 1) b
-  take_more p q =
-      ap (λ (n : ℕ). take n a) (add-one i)
-      ∙ take-suc a i 0 ha
-      ∙ ap₂ (λ (l : List ℕ) (x : ℕ). l ++ (x ∷ [])) p q
-      ∙ sym (take-suc b i 0 hb)
-      ∙ sym (ap (λ (n : ℕ). take n b) (add-one i))
+-- ---- a comparison that looks at every byte: its flag is 0 where no two bytes so far differed
+flag_is : (d x y : ℕ) → (eqb d 0 && eqb x y) ≡ eqb (bit_or d (bit_xor x y)) 0
+flag_is d x y =
+    let z = bit_xor x y in
+    same_from_decides _ _ (Decides-and (eqb d 0) (eqb x y) (Decides-eqb d 0) (Decides-eqb x y))
+    (Decides-like _ (λ h. (omega (arith, le_or_l d z), xor-zero x y (omega (arith, le_or_r d z))))
+    (λ e. ap₂ bit_or e.0 (ap (bit_xor x) (sym e.1) ∙ xor_self x)) (Decides-eqb (bit_or d z) 0))
 
-  pub take_less : take (i + 1) a ≡ take (i + 1) b → take i a ≡ take i b
-  take_less p = sym (take-take i (i + 1) a (omega arith)) ∙ ap (take i) p ∙ take-take i (i + 1) b (omega arith)
-
-  pub last_same : take (i + 1) a ≡ take (i + 1) b → get_or a i 0 ≡ get_or b i 0
-  last_same p =
-      sym (get_or-take (i + 1) a i 0 (omega arith)) ∙ ap (λ (l : List ℕ). get_or l i 0) p ∙ get_or-take (i + 1) b i 0 (omega arith)
+pub flag_more : (d x y : ℕ) (a b : List ℕ) → (eqb d 0 && same (x ∷ a) (y ∷ b)) ≡ (eqb (bit_or d (bit_xor x y)) 0 && same a b)
+unfolding same
+flag_more d x y a b = sym (and_assoc (eqb d 0) (eqb x y) (same a b)) ∙ ap (λ (t : Bool). t && same a b) (flag_is d x y)

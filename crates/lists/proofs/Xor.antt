@@ -9,7 +9,8 @@ use lib.ListN.{length, get_or, take}
 use Rattle.lists.specs.Xor.{xor}
 use Rattle.lists.specs.Table.{table}
 use Rattle.lists.proofs.Table.{as_table}
-use Rattle.lists.proofs.Bits.{xor_assoc as bits-assoc, xor_cancel as bits-cancel}
+use Rattle.std.specs.Int.Bits.{xor_assoc as bits-assoc}
+use Rattle.lists.proofs.Bits.{xor_cancel as bits-cancel}
 
 pub xor_comm : (a b : List ℕ) → xor a b ≡ xor b a
 unfolding xor

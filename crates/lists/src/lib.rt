@@ -12,23 +12,16 @@ pub fn lay(out: &mut [u8], at: usize, new: &[u8])
     requires { at + length new.now ≤ length out.old }
     ensures { out.new ≡ laid at new.now out.old }
 {
-    let mut i = 0;
-    while i < new.len() {
-        out[at + i] = new[i];
-        i += 1;
-    }
+    out[at..at + new.len()].copy_from_slice(new);
 }
 
 // Zeros over the first n bytes of out.
+#[tactic(auto, unfolding(crate::specs::Zeros::zeros))]
 pub fn clear(out: &mut [u8], n: usize)
     requires { n ≤ length out.old }
     ensures { out.new ≡ laid 0 (zeros n) out.old }
 {
-    let mut k = 0;
-    while k < n {
-        out[k] = 0;
-        k += 1;
-    }
+    out[..n].fill(0);
 }
 
 // Whether a and b are the same bytes. Of two that are equally long all bytes are looked at, whatever they are.
@@ -39,10 +32,8 @@ pub fn equal(a: &[u8], b: &[u8]) -> bool
         return false;
     }
     let mut differs: u8 = 0;
-    let mut j = 0;
-    while j < a.len() {
-        differs = differs | (a[j] ^ b[j]);
-        j += 1;
+    for (x, y) in a.iter().zip(b) {
+        differs |= x ^ y;
     }
     differs == 0
 }
