@@ -1,11 +1,15 @@
 -- Words and their bytes: the laws. Assumes nothing.
-use mathlib.Core.Path.{◌≡◌, refl, sym, ap, ap₂, ◌∙◌}
+use mathlib.Core.Path.{◌≡◌, refl, sym, ap, ap₂, ◌∙◌, subst}
 use mathlib.Core.List.{List, [], ◌∷◌, ◌++◌}
 use Prim.Native.Nat.{ℕ, zero, suc, ◌+◌, ◌*◌, ◌/◌, ◌%◌, ◌^◌, ◌<◌}
 use native.Mathlib.Nat.{mul_assoc, pow-suc}
 use native.Mathlib.Omega.{arith}
 use lib.Bits.{bit_xor, xor_mod, xor_shr}
-use lib.ListN.{length, length-append}
+use borrow.Author.Rules.{rules}
+use lib.ListN.{length, length-append, get_or}
+use Rattle.std.specs.Prelude.{reverse}
+use Rattle.std.specs.Int.{w32, w64, from_le_bytes, to_le_bytes, to_be_bytes, swap_bytes}
+use Rattle.std.proofs.lemmas.Nat.{le_bytes_4, le_bytes_8, be_bytes_8}
 use Rattle.lists.specs.Xor.{xor}
 use Rattle.lists.specs.Hex.{bytes as big}
 use Rattle.lists.proofs.Xor.{xor-append}
@@ -21,12 +25,6 @@ little_xor (suc n) x y = ap₂ ◌∷◌ (xor_mod x y 8) (ap (little n) (xor_shr
 pub little_number : (a b c d : ℕ) → a < 256 → b < 256 → c < 256 → d < 256 → little 4 (number (a ∷ b ∷ c ∷ d ∷ [])) ≡ a ∷ b ∷ c ∷ d ∷ []
 unfolding little number
 little_number a b c d ha hb hc hd = four (omega arith) (omega arith) (omega arith) (omega arith)
-
--- eight bytes are four and four
-pub little_halves : (x : ℕ) → little 8 x ≡ little 4 (x % 4294967296) ++ little 4 (x / 4294967296)
-unfolding little
-little_halves x =
-    ap₂ ◌++◌ (four (omega arith) (omega arith) (omega arith) (omega arith)) (four (omega arith) (omega arith) (omega arith) (omega arith))
 
 -- ---- the highest byte first
 pub length_big : (n x : ℕ) → length (big n x) ≡ n
@@ -49,3 +47,51 @@ big_above (suc n) x k =
     let above : (x + q * 256) / 256 ≡ x / 256 + q = omega arith in
     let last : (x + q * 256) % 256 ≡ x % 256 = omega arith in
     ap (big (suc n)) whole ∙ ap₂ (λ (l : List ℕ) (z : ℕ). l ++ (z ∷ [])) (ap (big n) above ∙ big_above n (x / 256) k) last
+
+-- ---- lists whose elements are bytes
+bytes_none : (i : ℕ) → get_or [] i 0 < 256
+bytes_none i = omega arith
+
+bytes_more : (x : ℕ) (l : List ℕ) → x < 256 → ((i : ℕ) → get_or l i 0 < 256) → (i : ℕ) → get_or (x ∷ l) i 0 < 256
+bytes_more x l h t zero = h
+bytes_more x l h t (suc i) = t i
+
+little_bytes : (n x i : ℕ) → get_or (little n x) i 0 < 256
+unfolding little
+little_bytes zero x = bytes_none
+little_bytes (suc n) x = bytes_more (x % 256) (little n (x / 256)) (omega arith) (little_bytes n (x / 256))
+
+-- ---- the library's conversions
+pub little_4 : (x : ℕ) → little 4 x ≡ to_le_bytes w32 x
+unfolding little
+little_4 x = four (omega arith) (omega arith) (omega arith) (omega arith)
+
+pub little_8 : (x : ℕ) → little 8 x ≡ to_le_bytes w64 x
+unfolding little
+little_8 x =
+    ap₂ ◌++◌ (four (omega arith) (omega arith) (omega arith) (omega arith)) (four (omega arith) (omega arith) (omega arith) (omega arith))
+
+pub big_8 : (x : ℕ) → big 8 x ≡ to_be_bytes w64 x
+big_8 x =
+    ap₂ ◌++◌ (four (omega arith) (omega arith) (omega arith) (omega arith)) (four (omega arith) (omega arith) (omega arith) (omega arith))
+
+pub packed_4 : (a b c d r : ℕ) → a < 256 → b < 256 → c < 256 → d < 256
+    → r ≡ from_le_bytes w32 (a ∷ b ∷ c ∷ d ∷ []) → little 4 r ≡ a ∷ b ∷ c ∷ d ∷ []
+packed_4 a b c d r ha hb hc hd e =
+    little_4 r ∙ le_bytes_4 (a ∷ b ∷ c ∷ d ∷ []) r refl (search (rules, bytes_none, bytes_more) depth 6) e
+
+pub packed_8 : (a b c d e f g h r : ℕ) → a < 256 → b < 256 → c < 256 → d < 256 → e < 256 → f < 256 → g < 256 → h < 256
+    → r ≡ from_le_bytes w64 (a ∷ b ∷ c ∷ d ∷ e ∷ f ∷ g ∷ h ∷ []) → little 8 r ≡ a ∷ b ∷ c ∷ d ∷ e ∷ f ∷ g ∷ h ∷ []
+packed_8 a b c d e f g h r ha hb hc hd he hf hg hh is =
+    little_8 r ∙ le_bytes_8 (a ∷ b ∷ c ∷ d ∷ e ∷ f ∷ g ∷ h ∷ []) r refl (search (rules, bytes_none, bytes_more) depth 10) is
+
+-- the bytes, exchanged from end to end
+module _ (x r : ℕ) (e : r ≡ swap_bytes w64 x) where
+  exchanged : to_be_bytes w64 r ≡ to_le_bytes w64 x
+  exchanged = be_bytes_8 (to_le_bytes w64 x) r refl (subst (λ (l : List ℕ). (i : ℕ) → get_or l i 0 < 256) (little_8 x) (little_bytes 8 x)) e
+
+  pub big_turned : big 8 r ≡ little 8 x
+  big_turned = big_8 r ∙ exchanged ∙ sym (little_8 x)
+
+  pub little_turned : little 8 r ≡ big 8 x
+  little_turned = little_8 r ∙ ap reverse exchanged ∙ sym (big_8 x)
