@@ -22,21 +22,13 @@ pub fn accepted(plan: &[u8], n: usize) -> bool
     if plan.len() != 3 * n {
         return false;
     }
-    let mut marks: [u8; 511] = [0; 511];
-    let mut j = 0;
-    while j < n {
+    let mut marks = [false; 511];
+    for j in 0..n {
         let i = pair_at(plan, j);
-        if n <= i {
+        if n <= i || 4 <= plan[3 * j + 2] || marks[i] {
             return false;
         }
-        if 4 <= plan[3 * j + 2] {
-            return false;
-        }
-        if marks[i] != 0 {
-            return false;
-        }
-        marks[i] = 1;
-        j += 1;
+        marks[i] = true;
     }
     true
 }
@@ -46,10 +38,8 @@ pub fn put_plan(n: usize, out: &mut [u8])
     requires { (n ≤ 511) × (3 * n ≤ length out.old) }
     ensures { out.new ≡ lay 0 (plan_of n) out.old }
 {
-    let mut i = 0;
-    while i < n {
+    for i in 0..n {
         let entry = [(i / 256) as u8, (i % 256) as u8, (i % 4) as u8];
         lists::lay(out, 3 * i, &entry);
-        i += 1;
     }
 }
