@@ -20,12 +20,6 @@ use Rattle.powers.specs.Field.{times}
 use Rattle.powers.proofs.One.{bytes-append}
 use Rattle.powers.proofs.Laws.{IsBlock}
 
--- a bit times a word is a word
-pub bit_times : (t b : ℕ) → t < 2 → b < top * 2 → t * b < top * 2
-bit_times zero b h hb = let none : 0 * b ≡ 0 = zero-mul b in omega (arith, none)
-bit_times (suc zero) b h hb = let one : 1 * b ≡ b = one-mul b in omega (arith, one, hb)
-bit_times (suc (suc t)) b h hb = absurd (omega arith)
-
 module _ (d e b c : ℕ) where
   pub added : (t : ℕ) → t < 2 → big 8 (bit_xor d (t * b)) ++ big 8 (bit_xor e (t * c)) ≡ xor (big 8 d ++ big 8 e) (times t (big 8 b ++ big 8 c))
   added zero h =

@@ -11,10 +11,10 @@ ghost use Rattle.mode.specs.Masks.{doubles};
 ghost use Rattle.powers.specs.Field.{times, horner as horner_of, product as product_of, power as power_of};
 
 // 2⁶³, the highest bit of a word.
-const TOP: u64 = 9223372036854775808;
+const TOP: u64 = 1 << 63;
 
 // 2⁵⁶, the lowest bit of its first byte.
-const BYTE: u64 = 72057594037927936;
+const BYTE: u64 = 1 << 56;
 
 // A step of Horner's rule: the sum doubled, and b in it where the highest bit of a is set.
 fn step(a: [u64; 2], b: [u64; 2], sum: [u64; 2]) -> [u64; 2]
@@ -30,18 +30,14 @@ fn horner(a: [u64; 2], n: usize, b: [u64; 2]) -> [u64; 2]
     ensures { big_of result ≡ horner_of n (big_of a) (big_of b) (zeros 16) }
 {
     let mut rest = a;
-    let mut sum: [u64; 2] = [0, 0];
-    let mut left = n;
-    while 0 < left {
-        let s = step(rest, b, sum);
-        let t = block::shift_big(rest);
-        sum = s;
-        rest = t;
-        left -= 1;
+    let mut sum = [0, 0];
+    for _ in 0..n {
+        (sum, rest) = (step(rest, b, sum), block::shift_big(rest));
     }
     sum
 }
 
+#[tactic(auto, unfolding(crate::specs::Field::product))]
 fn product(a: [u64; 2], b: [u64; 2]) -> [u64; 2]
     ensures { big_of result ≡ product_of (big_of a) (big_of b) }
 {
@@ -61,10 +57,9 @@ fn square(a: [u64; 2]) -> [u64; 2]
     ensures { big_of result ≡ product_of (big_of a) (big_of a) }
 {
     let mut rest = a;
-    let mut left: usize = 128;
+    let mut left = 128;
     while 8 <= left && rest[0] < BYTE {
-        let next = next_byte(rest);
-        rest = next;
+        rest = next_byte(rest);
         left -= 8;
     }
     horner(rest, left, a)

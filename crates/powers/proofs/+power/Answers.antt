@@ -17,7 +17,7 @@ pub returns-then-n-eq1 : goal.returns-then-n-eq1
 returns-then-n-eq1 t c =
     c.double_big.ensures
     ∙ ap double_of (c.square-squared.ensures ∙ ap₂ product_of c.power-half.ensures c.power-half.ensures)
-    ∙ power_odd c.args.n c.if-n-eq1.true
+    ∙ power_odd c.args.n (omega arith)
 
 pub returns : goal.returns
 returns t c =
