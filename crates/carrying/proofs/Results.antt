@@ -6,9 +6,10 @@ use lib.ListN.{length}
 use Rattle.lists.specs.Lay.{lay}
 use Rattle.lists.specs.Zeros.{zeros}
 use Rattle.mode.specs.Opening.{accepted, refused}
-use Rattle.link.specs.Answers.{number_of}
-use Rattle.link.specs.declared.answer.Answer.{Answer}
-use Rattle.link.specs.declared.answer.Answer.TheVariants.{Done, Forged}
+use Rattle.std.specs.Prelude.{Err}
+use Rattle.link.specs.Answers.{done}
+use Rattle.link.specs.declared.answer.Refusal.{Refusal}
+use Rattle.link.specs.declared.answer.Refusal.TheVariants.{Forged}
 use Rattle.carrying.specs.Checks.{Settings, other, passed, stopped, carry_check}
 use Rattle.carrying.specs.Promises.{sealing_on, seal_runs_on, open_runs_on, CarriesBy, Carries}
 use Rattle.carrying.specs.declared.Carried.{Carried}
@@ -21,22 +22,22 @@ module _ (edition : ℕ) (old : Settings) (t : ℕ) (s : List ℕ) (new : Settin
   -- done: m was sealed to the record
   pub record Over (m : List ℕ) : Type 0 where
     pub seals : sealing_on edition old t m ≡ s
-    pub answers : r ≡ record { side = Neither; answer = Done (length s) (open_runs_on edition old t s + seal_runs_on (other edition) new t m) }
+    pub answers : r ≡ record { side = Neither; answer = done (length s) (open_runs_on edition old t s + seal_runs_on (other edition) new t m) }
     pub writes : after ≡ lay 0 (sealing_on (other edition) new t m) out
     pub clears : cleared ≡ lay 0 (zeros (length s - t)) work
 
   -- 7: no message was
   pub record NotSealed : Type 0 where
     pub none : (m : List ℕ) → sealing_on edition old t m ≡ s → ⊥
-    pub answers : r ≡ record { side = Old; answer = Forged (open_runs_on edition old t s) }
+    pub answers : r ≡ record { side = Old; answer = Err (Forged (open_runs_on edition old t s)) }
     pub leaves : after ≡ out
     pub clears : cleared ≡ lay 0 (zeros (length s - t)) work
 
   pub data Result : Type 0 where
     over : Fits edition old t (length s) new (length out) (length work) → (m : List ℕ) → Over m → Result
     forged : Fits edition old t (length s) new (length out) (length work) → NotSealed → Result
-    refusal : (side : Side) (c : Answer) → (number_of c ≡ 0 → ⊥) → carry_check edition old t s new out work ≡ stopped side c
-        → (r ≡ record { side = side; answer = c }) × (after ≡ out) × (cleared ≡ work) → Result
+    refusal : (side : Side) (c : Refusal) → carry_check edition old t s new out work ≡ stopped side c
+        → (r ≡ record { side = side; answer = Err c }) × (after ≡ out) × (cleared ≡ work) → Result
 
   pub result : Carries edition old t s new out work r after cleared → Result
   unfolding Carries
@@ -48,7 +49,7 @@ module _ (edition : ℕ) (old : Settings) (t : ℕ) (s : List ℕ) (new : Settin
 
       go : Came (Fits edition old t (length s) new (length out) (length work)) (carry_check edition old t s new out work) → Result
       go (through f e) = by f (subst (CarriesBy edition old t s new out work r after cleared) e p)
-      go (held side c z e) = refusal side c z e (subst (CarriesBy edition old t s new out work r after cleared) e p)
+      go (held side c e) = refusal side c e (subst (CarriesBy edition old t s new out work r after cleared) e p)
 
   -- a record that is known to be sealed of m, with all that the checks make sure of: m is carried over
   pub carried_from : Fits edition old t (length s) new (length out) (length work) → (m : List ℕ) → sealing_on edition old t m ≡ s → Carries edition old t s new out work r after cleared → Over m
@@ -57,4 +58,4 @@ module _ (edition : ℕ) (old : Settings) (t : ℕ) (s : List ℕ) (new : Settin
       go : Result → Over m
       go (over g n o) = subst Over (sealing_injective edition old t f.old_side.nonces.1 f.old_side.tags.1 n m (o.seals ∙ sym is)) o
       go (forged g o) = absurd (o.none m is)
-      go (refusal side c some e q) = absurd (passed_or_stopped side c (sym (passes_all edition old t s new out work f) ∙ e))
+      go (refusal side c e q) = absurd (passed_or_stopped side c (sym (passes_all edition old t s new out work f) ∙ e))

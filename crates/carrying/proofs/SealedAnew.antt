@@ -17,15 +17,16 @@ use Rattle.mode.specs.Opening.{Opened, accepted, refused, Allowed}
 use Rattle.mode.specs.Undoing.{found_from_inputs}
 use Rattle.mode.proofs.Otr.{length-otr, otr_injective, otr_one_answer}
 use Rattle.mode.proofs.Runs.{length-from_inputs, length-found_from_inputs}
-use Rattle.link.specs.Answers.{number_of, length_of, runs_of}
-use Rattle.link.specs.Checks.{Check, pass, known_key}
+use Rattle.std.specs.Prelude.{Ok, Err}
+use Rattle.link.specs.Answers.{Answer, done, length_of, runs_of}
+use Rattle.link.specs.Checks.{Check, known_key}
 use Rattle.link.specs.Promises.{SealsBy, Seals, OpensBy, Opens}
-use Rattle.link.specs.declared.answer.Answer.{Answer}
-use Rattle.link.specs.declared.answer.Answer.TheVariants.{Done}
+use Rattle.link.specs.declared.answer.Done.{Done}
 use Rattle.link.proofs.Verdicts.{open_passes, seal_passes}
 use Rattle.link.proofs.Entries.{one_at_most, aes_cipher, aes_ta}
-use Rattle.carrying.specs.Checks.{Settings, other, Sided, passed, stopped, carry_check, as_carried}
+use Rattle.carrying.specs.Checks.{Settings, other, passed, carry_check}
 use Rattle.carrying.specs.Promises.{sealing_on, seal_runs_on, open_runs_on, CarriesBy, Carries}
+use Rattle.carrying.specs.declared.check.Stopped.{Stopped}
 use Rattle.carrying.specs.declared.Carried.{Carried}
 use Rattle.carrying.specs.declared.Side.TheVariants.{Neither, Old}
 use Rattle.carrying.proofs.Verdicts.{Came, through, held, Fits, carry_verdict, passed_or_stopped}
@@ -72,69 +73,64 @@ pub record Found (edition : ℕ) (old : Settings) (t : ℕ) (s work : List ℕ) 
 
 module _ (edition : ℕ) (old : Settings) (t : ℕ) (s : List ℕ) (new : Settings) (out work : List ℕ) where
   -- ---- the checks: one that fails ends the call, and nothing is written; or they have passed
-  stopped_by : (c : Sided) (r : Carried) → r ≡ as_carried c → (number_of r.answer ≡ 0 → ⊥) → CarriesBy edition old t s new out work r out work c
-  stopped_by passed r is z = absurd (z (ap (λ (x : Carried). number_of x.answer) is))
-  stopped_by (stopped side c) r is z = (is, refl, refl)
-
-  pub carry_refused : (r : Carried) → r ≡ as_carried (carry_check edition old t s new out work) → (number_of r.answer ≡ 0 → ⊥) → Carries edition old t s new out work r out work
+  pub carry_refused : (x : Stopped) → Err x ≡ carry_check edition old t s new out work
+      → Carries edition old t s new out work (record { side = x.side; answer = Err x.refusal }) out work
   unfolding Carries
-  carry_refused = stopped_by (carry_check edition old t s new out work)
+  carry_refused x e =
+      subst (CarriesBy edition old t s new out work (record { side = x.side; answer = Err x.refusal }) out work) e (refl, refl, refl)
 
   pub come_to : carry_check edition old t s new out work ≡ passed → (r : Carried) (after cleared : List ℕ) → CarriesBy edition old t s new out work r after cleared passed
       → Carries edition old t s new out work r after cleared
   unfolding Carries
   come_to come r after cleared = subst (CarriesBy edition old t s new out work r after cleared) (sym come)
 
-  pub carry_passed : (r : Carried) → r ≡ as_carried (carry_check edition old t s new out work) → number_of r.answer ≡ 0 → carry_check edition old t s new out work ≡ passed
-  carry_passed r is z = go (carry_verdict edition old t s new out work)
-    where
-      go : Came (Fits edition old t (length s) new (length out) (length work)) (carry_check edition old t s new out work) → carry_check edition old t s new out work ≡ passed
-      go (through f e) = e
-      go (held side x y e) = absurd (y (sym (ap (λ (c : Sided). number_of (as_carried c).answer) e) ∙ sym (ap (λ (x : Carried). number_of x.answer) is) ∙ z))
-
   pub fits_of : carry_check edition old t s new out work ≡ passed → Fits edition old t (length s) new (length out) (length work)
   fits_of come = go (carry_verdict edition old t s new out work)
     where
       go : Came (Fits edition old t (length s) new (length out) (length work)) (carry_check edition old t s new out work) → Fits edition old t (length s) new (length out) (length work)
       go (through f e) = f
-      go (held side x y e) = absurd (passed_or_stopped side x (sym come ∙ e))
+      go (held side x e) = absurd (passed_or_stopped side x (sym come ∙ e))
 
-  module _ (f : Fits edition old t (length s) new (length out) (length work)) where
+  module _ (come : carry_check edition old t s new out work ≡ passed) where
+    fits : Fits edition old t (length s) new (length out) (length work)
+    fits = fits_of come
+
     -- ---- the opening
     opened : (r : Answer) (holds : List ℕ) → Opens edition old.form old.key old.nonce old.ad s t work r holds
-        → OpensBy (pass (length s - t)) (open_runs_on edition old t s) (sealing_on edition old t) s work r holds
+        → OpensBy (Ok (length s - t)) (open_runs_on edition old t s) (sealing_on edition old t) s work r holds
     unfolding Opens
     opened r holds =
         subst (λ (c : Check). OpensBy c (open_runs_on edition old t s) (sealing_on edition old t) s work r holds)
-        (open_passes edition old.form (known_key (length old.key)) (length old.nonce) t (length old.ad) f.old_side (length s) (length work) f.least f.most f.work_room)
+        (open_passes edition old.form (known_key (length old.key)) (length old.nonce) t (length old.ad) fits.old_side (length s) (length work) fits.least fits.most fits.work_room)
 
     -- one that is not done is 7: no message was sealed to the record
-    pub none_found : (r : Answer) (holds : List ℕ) → Opens edition old.form old.key old.nonce old.ad s t work r holds → ((n j : ℕ) → r ≡ Done n j → ⊥)
+    pub none_found : (r : Answer) (holds : List ℕ) → Opens edition old.form old.key old.nonce old.ad s t work r holds → ((d : Done) → r ≡ Ok d → ⊥)
         → CarriesBy edition old t s new out work (record { side = Old; answer = r }) out holds passed
     none_found r holds p not_done = go (opened r holds p)
       where
-        go : OpensBy (pass (length s - t)) (open_runs_on edition old t s) (sealing_on edition old t) s work r holds
+        go : OpensBy (Ok (length s - t)) (open_runs_on edition old t s) (sealing_on edition old t) s work r holds
             → CarriesBy edition old t s new out work (record { side = Old; answer = r }) out holds passed
-        go (accepted m, a, is, b) = absurd (not_done (length s - t) (open_runs_on edition old t s) is)
+        go (accepted m, a, is, b) = absurd (not_done (record { length = length s - t; runs = open_runs_on edition old t s }) is)
         go (refused, a, is, b) = (refused, a, ap (λ (x : Answer). record { side = Old; answer = x }) is, refl, b)
 
-    pub found : (n j : ℕ) (r : Answer) (holds : List ℕ) → r ≡ Done n j → Opens edition old.form old.key old.nonce old.ad s t work r holds → Found edition old t s work n j holds
-    found n j r holds done_is p = go (opened r holds p)
+    pub found : (n j : ℕ) (holds : List ℕ) → Opens edition old.form old.key old.nonce old.ad s t work (done n j) holds → Found edition old t s work n j holds
+    found n j holds p = go (opened (done n j) holds p)
       where
-        go : OpensBy (pass (length s - t)) (open_runs_on edition old t s) (sealing_on edition old t) s work r holds → Found edition old t s work n j holds
+        go : OpensBy (Ok (length s - t)) (open_runs_on edition old t s) (sealing_on edition old t) s work (done n j) holds → Found edition old t s work n j holds
         go (accepted m, a, is, b) =
-            let n_is : n ≡ length s - t = sym (ap length_of done_is) ∙ ap length_of is in
-            let s_long : length s ≡ length m + t = sym (ap length a) ∙ sealed_long edition old t f.old_side.nonces.1 f.old_side.tags.1 m in
-            record { message = m; seals = a; long = omega arith; bytes = n_is; runs = sym (ap runs_of done_is) ∙ ap runs_of is; stands = b }
-        go (refused, a, is, b) =
-            let zero_is : number_of r ≡ 0 = ap number_of done_is in
-            let seven_is : number_of r ≡ 7 = ap number_of is in
-            absurd (omega arith)
+            let n_is : n ≡ length s - t = ap length_of is in
+            let s_long : length s ≡ length m + t = sym (ap length a) ∙ sealed_long edition old t fits.old_side.nonces.1 fits.old_side.tags.1 m in
+            record { message = m; seals = a; long = omega arith; bytes = n_is; runs = ap runs_of is; stands = b }
+        go (refused, a, is, b) = absurd (cc)
 
     -- ---- the sealing anew of what was found, and the clearing
     module _ (n j : ℕ) (holds : List ℕ) (g : Found edition old t s work n j holds) where
+      -- it stands in the work buffer
+      pub within_work : n ≤ length work
+      within_work = omega (arith, g.bytes, fits.work_room)
+
       fits_work : 0 + length g.message ≤ length work
-      fits_work = omega (arith, g.long, g.bytes, f.work_room)
+      fits_work = omega (arith, g.long, within_work)
 
       front : take n holds ≡ g.message
       front =
@@ -142,12 +138,12 @@ module _ (edition : ℕ) (old : Settings) (t : ℕ) (s : List ℕ) (new : Settin
           ap₂ take place g.stands ∙ take-lay 0 g.message work fits_work
 
       module _ (r : Answer) (after : List ℕ) (p : Seals (other edition) new.form new.key new.nonce new.ad (take n holds) t out r after) where
-        anew : SealsBy (pass (length g.message + t)) (seal_runs_on (other edition) new t g.message) (sealing_on (other edition) new t g.message) out r after
+        anew : SealsBy (Ok (length g.message + t)) (seal_runs_on (other edition) new t g.message) (sealing_on (other edition) new t g.message) out r after
         unfolding Seals
         anew =
             subst (λ (c : Check). SealsBy c (seal_runs_on (other edition) new t g.message) (sealing_on (other edition) new t g.message) out r after)
-            (seal_passes (other edition) new.form (known_key (length new.key)) (length new.nonce) t (length new.ad) f.new_side (length g.message) (length out)
-            (omega (arith, g.long, g.bytes, f.most)) (omega (arith, g.long, g.bytes, f.least, f.room)))
+            (seal_passes (other edition) new.form (known_key (length new.key)) (length new.nonce) t (length new.ad) fits.new_side (length g.message) (length out)
+            (omega (arith, g.long, g.bytes, fits.most)) (omega (arith, g.long, g.bytes, fits.least, fits.room)))
             (subst (λ (m : List ℕ). Seals (other edition) new.form new.key new.nonce new.ad m t out r after) front p)
 
         pub few_runs : j + runs_of r ≤ 2566
@@ -156,16 +152,16 @@ module _ (edition : ℕ) (old : Settings) (t : ℕ) (s : List ℕ) (new : Settin
               arith,
               g.runs,
               ap runs_of anew.0,
-              open_few edition old t f.old_side.nonces.1 f.old_side.tags.1 f.old_side.data_most s (omega (arith, f.most)),
-              seal_few (other edition) new t f.new_side.nonces.1 f.new_side.tags.1 f.new_side.data_most g.message (omega (arith, g.long, g.bytes, f.most)),
+              open_few edition old t fits.old_side.nonces.1 fits.old_side.tags.1 fits.old_side.data_most s (omega (arith, fits.most)),
+              seal_few (other edition) new t fits.new_side.nonces.1 fits.new_side.tags.1 fits.new_side.data_most g.message (omega (arith, g.long, g.bytes, fits.most)),
             )
 
         pub carried_over : (cleared : List ℕ) → cleared ≡ lay 0 (zeros n) holds
-            → CarriesBy edition old t s new out work (record { side = Neither; answer = Done (length s) (j + runs_of r) }) after cleared passed
+            → CarriesBy edition old t s new out work (record { side = Neither; answer = done (length s) (j + runs_of r) }) after cleared passed
         carried_over cleared is = (
           accepted g.message,
           g.seals,
-          ap₂ (λ (i k : ℕ). record { side = Neither; answer = Done (length s) (i + k) }) g.runs (ap runs_of anew.0),
+          ap₂ (λ (i k : ℕ). record { side = Neither; answer = done (length s) (i + k) }) g.runs (ap runs_of anew.0),
           anew.1,
           is
               ∙ ap (lay 0 (zeros n)) g.stands

@@ -1,12 +1,13 @@
 -- What carrying promises, for every input: the answer with its side and with how many times the cipher ran, the complete output and the
 -- complete work buffer. The record is opened as opening promises it: by sealing alone.
-use Rattle.std.specs.Prelude.{◌≡◌, List, ℕ, ◌+◌, ◌-◌, length}
+use Rattle.std.specs.Prelude.{◌≡◌, List, ℕ, ◌+◌, ◌-◌, length, Ok, Err}
 use Rattle.lists.specs.Lay.{lay}
 use Rattle.lists.specs.Zeros.{zeros}
 use Rattle.mode.specs.Opening.{Opened, accepted, refused, Allowed}
+use Rattle.link.specs.Answers.{done}
 use Rattle.link.specs.Promises.{sealing, seal_runs, open_runs}
-use Rattle.link.specs.declared.answer.Answer.TheVariants.{Done, Forged}
-use Rattle.carrying.specs.Checks.{Settings, other, Sided, passed, stopped, carry_check}
+use Rattle.link.specs.declared.answer.Refusal.TheVariants.{Forged}
+use Rattle.carrying.specs.Checks.{Settings, other, Sided, carry_check}
 use Rattle.carrying.specs.declared.Carried.{Carried}
 use Rattle.carrying.specs.declared.Side.TheVariants.{Neither, Old}
 
@@ -24,8 +25,8 @@ module _ (edition : ℕ) (side : Settings) (t : ℕ) where
 -- ---- once the checks have passed: the record, of n bytes, was sealed of a message, which is then sealed anew; or of none, which is 7 on
 -- the old side, and nothing is written. j are the runs of opening, k m those of sealing m anew
 abbrev pub carried_as : ℕ → ℕ → (List ℕ → ℕ) → Opened → Carried
-carried_as n j k (accepted m) = record { side = Neither; answer = Done n (j + k m) }
-carried_as n j k refused = record { side = Old; answer = Forged j }
+carried_as n j k (accepted m) = record { side = Neither; answer = done n (j + k m) }
+carried_as n j k refused = record { side = Old; answer = Err (Forged j) }
 
 abbrev pub written_as : (List ℕ → List ℕ) → Opened → List ℕ → List ℕ
 written_as anew (accepted m) out = lay 0 (anew m) out
@@ -35,13 +36,13 @@ written_as anew refused out = out
 -- and work before
 module _ (edition : ℕ) (old : Settings) (t : ℕ) (s : List ℕ) (new : Settings) (out work : List ℕ) (r : Carried) (after cleared : List ℕ) where
   abbrev pub CarriesBy : Sided → Type 0
-  CarriesBy passed =
+  CarriesBy (Ok u) =
       (o : Opened)
       × Allowed (sealing_on edition old t) s o
       × (r ≡ carried_as (length s) (open_runs_on edition old t s) (seal_runs_on (other edition) new t) o)
       × (after ≡ written_as (sealing_on (other edition) new t) o out)
       × (cleared ≡ lay 0 (zeros (length s - t)) work)
-  CarriesBy (stopped side c) = (r ≡ record { side = side; answer = c }) × (after ≡ out) × (cleared ≡ work)
+  CarriesBy (Err c) = (r ≡ record { side = c.side; answer = Err c.refusal }) × (after ≡ out) × (cleared ≡ work)
 
   unfoldable pub Carries : Type 0
   Carries = CarriesBy (carry_check edition old t s new out work)

@@ -1,12 +1,18 @@
 // The checks of both sides, in the order of document 02's wish 8.
 ghost use Rattle.std.specs.Prelude.{◌≡◌, not, ◌≤◌, length};
 ghost use Rattle.lists.specs.Same.{same};
-ghost use Rattle.link.specs.Checks.{as_answer};
-ghost use Rattle.carrying.specs.Checks.{other, old_check, new_check, room_check, passed, of, as_carried};
+ghost use Rattle.carrying.specs.Checks.{other, old_check, new_check, room_check, passed, of};
 ghost use Rattle.carrying.specs.declared.Side.TheVariants.{Neither, Old, New};
 
-use crate::{Carried, Side};
-use link::{Answer, number};
+use crate::Side;
+use link::Refusal;
+
+// The first check that failed, and its side.
+#[derive(Clone, Copy)]
+pub struct Stopped {
+    pub side: Side,
+    pub refusal: Refusal,
+}
 
 pub fn other_edition(edition: usize) -> usize
     ensures { result ≡ other edition }
@@ -26,23 +32,27 @@ fn old_check(
     tag: usize,
     ad: usize,
     sealed: usize,
-) -> Answer
-    ensures { result ≡ as_answer (old_check edition form key nonce tag ad sealed) }
+) -> Result<(), Refusal>
+    ensures { result ≡ old_check edition form key nonce tag ad sealed }
 {
     let known = link::known_key(key);
-    let first = link::call_check(edition, form, known, nonce, tag, ad);
-    if number(first) != 0 {
-        return first;
-    }
+    link::call_check(edition, form, known, nonce, tag, ad)?;
     if !link::from_to(tag, 16384 + tag, sealed) {
-        return Answer::Length;
+        return Err(Refusal::Length);
     }
-    Answer::Done { length: 0, runs: 0 }
+    Ok(())
 }
 
 // The new side's 8, 1, 2 and 4. Its edition is one, and the tag length has passed with the old side's.
-fn new_check(edition: usize, form: usize, key: usize, nonce: usize, tag: usize, ad: usize) -> Answer
-    ensures { result ≡ as_answer (new_check edition form key nonce tag ad) }
+fn new_check(
+    edition: usize,
+    form: usize,
+    key: usize,
+    nonce: usize,
+    tag: usize,
+    ad: usize,
+) -> Result<(), Refusal>
+    ensures { result ≡ new_check edition form key nonce tag ad }
 {
     let known = link::known_key(key);
     link::call_check(other_edition(edition), form, known, nonce, tag, ad)
@@ -56,23 +66,30 @@ fn room_check(
     work: usize,
     key: &[u8],
     key2: &[u8],
-) -> Answer
+) -> Result<(), Refusal>
     requires { tag ≤ sealed }
-    ensures { result ≡ as_answer (room_check tag sealed room work (not (same key.now key2.now))) }
+    ensures { result ≡ room_check tag sealed room work (not (same key.now key2.now)) }
 {
     if room < sealed {
-        return Answer::Room;
+        return Err(Refusal::Room);
     }
     if work < sealed - tag {
-        return Answer::Room;
+        return Err(Refusal::Room);
     }
     if lists::equal(key, key2) {
-        return Answer::SameKey;
+        return Err(Refusal::SameKey);
     }
-    Answer::Done { length: 0, runs: 0 }
+    Ok(())
 }
 
-// All of them: done on neither side, or the first that fails with its side.
+// The checks of a side: where one fails, it is of that side.
+fn on(side: Side, checks: Result<(), Refusal>) -> Result<(), Stopped>
+    ensures { result ≡ of side checks passed }
+{
+    checks.map_err(|refusal| Stopped { side, refusal })
+}
+
+// All of them.
 pub fn carry_check(
     edition: usize,
     form: usize,
@@ -87,26 +104,15 @@ pub fn carry_check(
     ad2: usize,
     room: usize,
     work: usize,
-) -> Carried
-    ensures { result ≡ as_carried (of Old (old_check edition form (length key.now) nonce tag ad sealed) (of New (new_check edition form2 (length key2.now) nonce2 tag ad2) (of Neither (room_check tag sealed room work (not (same key.now key2.now))) passed))) }
+) -> Result<(), Stopped>
+    ensures { result ≡ of Old (old_check edition form (length key.now) nonce tag ad sealed) (of New (new_check edition form2 (length key2.now) nonce2 tag ad2) (of Neither (room_check tag sealed room work (not (same key.now key2.now))) passed)) }
 {
     let old = old_check(edition, form, key.len(), nonce, tag, ad, sealed);
-    if number(old) != 0 {
-        return Carried {
-            side: Side::Old,
-            answer: old,
-        };
-    }
+    on(Side::Old, old)?;
     let new = new_check(edition, form2, key2.len(), nonce2, tag, ad2);
-    if number(new) != 0 {
-        return Carried {
-            side: Side::New,
-            answer: new,
-        };
-    }
-    let answer = room_check(tag, sealed, room, work, key, key2);
-    Carried {
-        side: Side::Neither,
-        answer: answer,
-    }
+    on(Side::New, new)?;
+    on(
+        Side::Neither,
+        room_check(tag, sealed, room, work, key, key2),
+    )
 }

@@ -7,7 +7,7 @@ ghost use Rattle.std.specs.Prelude.{◌≡◌};
 ghost use Rattle.carrying.specs.Checks.{settings, passed, carry_check};
 ghost use Rattle.carrying.specs.Promises.{CarriesBy, Carries};
 
-use link::Answer;
+use link::{Answer, Done};
 
 mod check;
 
@@ -58,9 +58,11 @@ pub fn carry(
         out.len(),
         work.len(),
     );
-    let first = checked.answer;
-    if link::number(first) != 0 {
-        return checked;
+    if let Err(stopped) = checked {
+        return Carried {
+            side: stopped.side,
+            answer: Err(stopped.refusal),
+        };
     }
     carry_over(
         edition, form, key, nonce, ad, tag, sealed, form2, key2, nonce2, ad2, out, work,
@@ -87,7 +89,7 @@ fn carry_over(
     ensures { CarriesBy edition (settings form key.now nonce.now ad.now) tag sealed.now (settings form2 key2.now nonce2.now ad2.now) out.old work.old result out.new work.new passed }
 {
     let opened = link::open(edition, form, key, nonce, ad, sealed, tag, work);
-    let Answer::Done { length, runs } = opened else {
+    let Ok(done) = opened else {
         return Carried {
             side: Side::Old,
             answer: opened,
@@ -100,16 +102,16 @@ fn carry_over(
         key2,
         nonce2,
         ad2,
-        &work[..length],
+        &work[..done.length],
         tag,
         out,
     );
-    lists::clear(work, length);
+    lists::clear(work, done.length);
     Carried {
         side: Side::Neither,
-        answer: Answer::Done {
+        answer: Ok(Done {
             length: sealed.len(),
-            runs: runs + link::runs(anew),
-        },
+            runs: done.runs + link::runs(anew),
+        }),
     }
 }

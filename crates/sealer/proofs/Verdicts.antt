@@ -10,7 +10,7 @@ use Rattle.mode.specs.Message.{pairs_of}
 use Rattle.mode.specs.Feeding.{keeps}
 use Rattle.mode.proofs.Counts.{rest_most}
 use Rattle.link.specs.Checks.{from_to, known_rounds}
-use Rattle.link.specs.declared.answer.Answer.TheVariants.{Length, Room, Ended}
+use Rattle.link.specs.declared.answer.Refusal.TheVariants.{Length, Room, Ended}
 use Rattle.link.proofs.Verdicts.{Verdict, passes, checked, and_true, within}
 use Rattle.link.proofs.Entries.{counted}
 use Rattle.sealer.specs.Sealers.{going_on, feed_check, end_check}
@@ -43,14 +43,14 @@ module _ (rounds t fed : ℕ) where
   pub feed_verdict : (x o : ℕ) → Verdict (FeedFits x o) (32 * pairs_of (keeps fed + x)) (feed_check rounds t fed x o)
   unfolding feed_check
   feed_verdict x o =
-      checked (going_on rounds t fed) Ended (λ z. omega arith) λ g.
-      checked (leb (fed + x) 16384) Length (λ z. omega arith) λ l.
-      checked (leb (32 * pairs_of (keeps fed + x)) o) Room (λ z. omega arith) λ r.
+      checked (going_on rounds t fed) Ended λ g.
+      checked (leb (fed + x) 16384) Length λ l.
+      checked (leb (32 * pairs_of (keeps fed + x)) o) Room λ r.
       passes (going g, leb-true (fed + x) 16384 l, leb-true (32 * pairs_of (keeps fed + x)) o r) refl
 
   pub end_verdict : (o : ℕ) → Verdict (EndFits o) (keeps fed + t) (end_check rounds t fed o)
   unfolding end_check
   end_verdict o =
-      checked (going_on rounds t fed) Ended (λ z. omega arith) λ g.
-      checked (leb (keeps fed + t) o) Room (λ z. omega arith) λ r.
+      checked (going_on rounds t fed) Ended λ g.
+      checked (leb (keeps fed + t) o) Room λ r.
       passes (going g, leb-true (keeps fed + t) o r) refl

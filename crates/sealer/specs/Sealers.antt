@@ -1,5 +1,5 @@
 -- Document 02, wish 3: the sealers that go on, begun, fed and ended, and the checks of feeding and ending.
-use Rattle.std.specs.Prelude.{Bool, ◌&&◌, List, ℕ, ◌+◌, ◌*◌, leb, length}
+use Rattle.std.specs.Prelude.{Bool, ◌&&◌, List, ℕ, ◌+◌, ◌*◌, leb, length, Ok}
 use Rattle.lists.specs.Zeros.{zeros}
 use Rattle.block.specs.Block.{triple}
 use Rattle.mode.specs.Form.{form_of}
@@ -7,8 +7,8 @@ use Rattle.mode.specs.declared.edition.Edition.TheVariants.{V3}
 use Rattle.mode.specs.Message.{pairs_of}
 use Rattle.mode.specs.Sealing.{u, added}
 use Rattle.mode.specs.Feeding.{Between, keeps}
-use Rattle.link.specs.Checks.{Check, pass, from_to, unless, known_rounds}
-use Rattle.link.specs.declared.answer.Answer.TheVariants.{Length, Room, Ended}
+use Rattle.link.specs.Checks.{Check, from_to, unless, known_rounds}
+use Rattle.link.specs.declared.answer.Refusal.TheVariants.{Length, Room, Ended}
 use Rattle.parts.specs.State.{between, fed_state}
 use Rattle.sealer.specs.declared.Sealer.{Sealer}
 
@@ -70,8 +70,8 @@ unfoldable pub feed_check : ℕ → ℕ → ℕ → ℕ → ℕ → Check
 feed_check rounds t fed x o =
     unless (going_on rounds t fed) Ended
     (unless (leb (fed + x) 16384) Length
-    (unless (leb (32 * pairs_of (keeps fed + x)) o) Room (pass (32 * pairs_of (keeps fed + x)))))
+    (unless (leb (32 * pairs_of (keeps fed + x)) o) Room (Ok (32 * pairs_of (keeps fed + x)))))
 
 -- ending into o: 9, and 6 where the rest and the tag have no room
 unfoldable pub end_check : ℕ → ℕ → ℕ → ℕ → Check
-end_check rounds t fed o = unless (going_on rounds t fed) Ended (unless (leb (keeps fed + t) o) Room (pass (keeps fed + t)))
+end_check rounds t fed o = unless (going_on rounds t fed) Ended (unless (leb (keeps fed + t) o) Room (Ok (keeps fed + t)))

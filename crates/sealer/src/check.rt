@@ -1,10 +1,9 @@
 // Which sealers go on, and the checks of feeding and ending: 9, 5 and 6. They go by numbers alone.
 ghost use Rattle.std.specs.Prelude.{◌≡◌};
 ghost use Rattle.mode.specs.Feeding.{keeps};
-ghost use Rattle.link.specs.Checks.{as_answer};
 ghost use Rattle.sealer.specs.Sealers.{going_on, feed_check, end_check};
 
-use link::Answer;
+use link::Refusal;
 
 fn goes_on(rounds: usize, tag: usize, fed: usize) -> bool
     ensures { result ≡ going_on rounds tag fed }
@@ -25,37 +24,39 @@ pub fn kept(fed: usize) -> usize
     fed - 32 * pairs::pairs_of(fed)
 }
 
-pub fn feed(rounds: usize, tag: usize, fed: usize, part: usize, room: usize) -> Answer
-    ensures { result ≡ as_answer (feed_check rounds tag fed part room) }
+#[tactic(auto, unfolding(crate::specs::Sealers::feed_check))]
+pub fn feed(
+    rounds: usize,
+    tag: usize,
+    fed: usize,
+    part: usize,
+    room: usize,
+) -> Result<usize, Refusal>
+    ensures { result ≡ feed_check rounds tag fed part room }
 {
     if !goes_on(rounds, tag, fed) {
-        return Answer::Ended;
+        return Err(Refusal::Ended);
     }
     if 16384 - fed < part {
-        return Answer::Length;
+        return Err(Refusal::Length);
     }
     let due = 32 * pairs::pairs_of(kept(fed) + part);
     if room < due {
-        return Answer::Room;
+        return Err(Refusal::Room);
     }
-    Answer::Done {
-        length: due,
-        runs: 0,
-    }
+    Ok(due)
 }
 
-pub fn end(rounds: usize, tag: usize, fed: usize, room: usize) -> Answer
-    ensures { result ≡ as_answer (end_check rounds tag fed room) }
+#[tactic(auto, unfolding(crate::specs::Sealers::end_check))]
+pub fn end(rounds: usize, tag: usize, fed: usize, room: usize) -> Result<usize, Refusal>
+    ensures { result ≡ end_check rounds tag fed room }
 {
     if !goes_on(rounds, tag, fed) {
-        return Answer::Ended;
+        return Err(Refusal::Ended);
     }
     let due = kept(fed) + tag;
     if room < due {
-        return Answer::Room;
+        return Err(Refusal::Room);
     }
-    Answer::Done {
-        length: due,
-        runs: 0,
-    }
+    Ok(due)
 }

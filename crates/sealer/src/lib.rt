@@ -11,13 +11,12 @@ ghost use Rattle.mode.specs.declared.edition.Edition.TheVariants.{V3};
 ghost use Rattle.mode.specs.Sealing.{call_inputs};
 ghost use Rattle.mode.specs.Message.{pairs_of};
 ghost use Rattle.mode.specs.Feeding.{keeps, fed_bytes, fed_inputs, end_bytes, end_inputs};
-ghost use Rattle.link.specs.Checks.{pass};
+ghost use Rattle.link.specs.Answers.{done};
 ghost use Rattle.link.specs.Prepared.{cipher_of};
-ghost use Rattle.link.specs.declared.answer.Answer.TheVariants.{Done};
 ghost use Rattle.sealer.specs.Sealers.{standing, begun_by, fed_by, ended as ended_as};
 ghost use Rattle.sealer.specs.Promises.{StepBy, beginning, Feeds, Ends};
 
-use link::{Answer, Prepared};
+use link::{Answer, Done, Prepared};
 use parts::State;
 
 mod check;
@@ -71,12 +70,10 @@ pub fn begin(form: usize, key: &[u8], nonce: &[u8], ad: &[u8], tag: usize) -> St
     ensures { result ≡ beginning cipher form key.now nonce.now ad.now tag }
 {
     let known = link::known_key(key.len());
-    let answer = link::call_check(3, form, known, nonce.len(), tag, ad.len());
-    if link::number(answer) != 0 {
-        let none = ended();
+    if let Err(refusal) = link::call_check(3, form, known, nonce.len(), tag, ad.len()) {
         return Step {
-            answer: answer,
-            sealer: none,
+            answer: Err(refusal),
+            sealer: ended(),
         };
     }
     let tables = tables::joined();
@@ -99,7 +96,7 @@ fn start(
     requires round_count { (10 ≤ key.rounds) × (key.rounds ≤ 14) }
     requires lengths { (1 ≤ length nonce.now) × ((length nonce.now ≤ 15) × (tag ≤ 16)) }
     requires ad_len_bound { (length ad.now ≤ 4096) × (before ≤ 1) }
-    ensures { result ≡ record { answer = Done 0 (before + length (call_inputs (cipher_of key) key.zero (V3 (form_of form)) nonce.now ad.now tag)); sealer = begun_by (cipher_of key) key.zero key.rounds key.words form nonce.now ad.now tag } }
+    ensures { result ≡ record { answer = done 0 (before + length (call_inputs (cipher_of key) key.zero (V3 (form_of form)) nonce.now ad.now tag)); sealer = begun_by (cipher_of key) key.zero key.rounds key.words form nonce.now ad.now tag } }
 {
     let nr = key.rounds;
     let w = key.words;
@@ -121,12 +118,11 @@ fn start(
         tag: tag,
         fed: 0,
     };
-    let answer = Answer::Done {
-        length: 0,
-        runs: before + with.runs,
-    };
     Step {
-        answer: answer,
+        answer: Ok(Done {
+            length: 0,
+            runs: before + with.runs,
+        }),
         sealer: begun,
     }
 }
@@ -135,10 +131,9 @@ impl Sealer {
     pub fn feed(mut self, part: &[u8], out: &mut [u8]) -> Step
         ensures { Feeds cipher self part.now out.old result out.new }
     {
-        let answer = check::feed(self.rounds, self.tag, self.fed, part.len(), out.len());
-        if link::number(answer) != 0 {
+        if let Err(refusal) = check::feed(self.rounds, self.tag, self.fed, part.len(), out.len()) {
             return Step {
-                answer: answer,
+                answer: Err(refusal),
                 sealer: self,
             };
         }
@@ -149,7 +144,7 @@ impl Sealer {
     fn take_in(mut self, part: &[u8], out: &mut [u8]) -> Step
         requires round_count { (10 ≤ self.rounds) × (self.rounds ≤ 14) }
         requires part_bound { (self.fed + length part.now ≤ 16384) × (32 * pairs_of (keeps self.fed + length part.now) ≤ length out.old) }
-        ensures { StepBy (pass (32 * pairs_of (keeps self.fed + length part.now))) (length (fed_inputs (cipher self.rounds self.words) (standing self) part.now)) (fed_bytes (cipher self.rounds self.words) (standing self) part.now) (fed_by self part.now) self out.old result out.new }
+        ensures { StepBy (Ok (32 * pairs_of (keeps self.fed + length part.now))) (length (fed_inputs (cipher self.rounds self.words) (standing self) part.now)) (fed_bytes (cipher self.rounds self.words) (standing self) part.now) (fed_by self part.now) self out.old result out.new }
     {
         let nr = self.rounds;
         let fed = self.fed;
@@ -162,7 +157,7 @@ impl Sealer {
             let next = parts::keep(state, held, part);
             self.state = next;
             return Step {
-                answer: Answer::Done { length: 0, runs: 0 },
+                answer: Ok(Done { length: 0, runs: 0 }),
                 sealer: self,
             };
         }
@@ -171,10 +166,10 @@ impl Sealer {
         let next = pass.state;
         self.state = next;
         Step {
-            answer: Answer::Done {
+            answer: Ok(Done {
                 length: 32 * n,
                 runs: pass.runs,
-            },
+            }),
             sealer: self,
         }
     }
@@ -182,10 +177,9 @@ impl Sealer {
     pub fn end(mut self, out: &mut [u8]) -> Step
         ensures { Ends cipher self out.old result out.new }
     {
-        let answer = check::end(self.rounds, self.tag, self.fed, out.len());
-        if link::number(answer) != 0 {
+        if let Err(refusal) = check::end(self.rounds, self.tag, self.fed, out.len()) {
             return Step {
-                answer: answer,
+                answer: Err(refusal),
                 sealer: self,
             };
         }
@@ -196,7 +190,7 @@ impl Sealer {
     fn give_rest(mut self, out: &mut [u8]) -> Step
         requires round_count { (10 ≤ self.rounds) × ((self.rounds ≤ 14) × (self.tag ≤ 16)) }
         requires room { keeps self.fed + self.tag ≤ length out.old }
-        ensures { StepBy (pass (keeps self.fed + self.tag)) (length (end_inputs (cipher self.rounds self.words) (standing self))) (end_bytes (cipher self.rounds self.words) self.added self.tag (standing self)) ended_as self out.old result out.new }
+        ensures { StepBy (Ok (keeps self.fed + self.tag)) (length (end_inputs (cipher self.rounds self.words) (standing self))) (end_bytes (cipher self.rounds self.words) self.added self.tag (standing self)) ended_as self out.old result out.new }
     {
         let nr = self.rounds;
         let tag = self.tag;
@@ -208,10 +202,10 @@ impl Sealer {
         let none = ended();
         self = none;
         Step {
-            answer: Answer::Done {
+            answer: Ok(Done {
                 length: held + tag,
                 runs: runs,
-            },
+            }),
             sealer: self,
         }
     }

@@ -1,0 +1,9 @@
+-- `sealer::Sealer::give_rest` meets its contract: no more than 32 bytes are kept. Assumes nothing.
+use Rattle.std.proofs.Common.{arith}
+use Rattle.sealer.proofs.Verdicts.{keeps_most}
+use Rattle.sealer.proofs.Sealer.give_rest.Goals as goal
+
+pub end-runs-requires-clause-held_bound : goal.end-runs-requires-clause-held_bound
+end-runs-requires-clause-held_bound c =
+    let most = keeps_most c.args.self.fed in
+    (omega arith, (omega arith, omega arith))

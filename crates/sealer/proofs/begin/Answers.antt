@@ -1,0 +1,43 @@
+-- `sealer::begin` meets its promise. Assumes nothing.
+use Rattle.std.proofs.Common.{◌≤◌, Err, sym, ap, subst, ◌∙◌}
+use Rattle.mode.specs.Data.{with_data}
+use Rattle.link.specs.declared.prepared.Own.{Own}
+use Rattle.link.proofs.Entries.{rounds_in, one_at_most}
+use Rattle.sealer.specs.declared.Sealer.{Sealer}
+use Rattle.sealer.proofs.Begins.{begin_refused, begin_fits, begin_passed}
+use Rattle.sealer.proofs.begin.Goals as goal
+
+pub returns-in-Err : goal.returns-in-Err
+returns-in-Err c =
+    let v = c.args in
+    ap (λ (x : Sealer). record { answer = Err c.in-Err.refusal; sealer = x }) c.ended.ensures
+    ∙ begin_refused v.form v.key.now v.nonce.now v.ad.now v.tag c.known_key-known.ensures _ c.in-Err.ensures
+
+pub own_record-own-requires-clause-known : goal.own_record-own-requires-clause-known
+own_record-own-requires-clause-known c =
+    let v = c.args in
+    (begin_fits v.form v.key.now v.nonce.now v.ad.now v.tag c.known_key-known.ensures _ c.in_default.ensures).known
+
+pub start-requires-clause-round_count : goal.start-requires-clause-round_count
+start-requires-clause-round_count c =
+    let v = c.args in
+    let known = (begin_fits v.form v.key.now v.nonce.now v.ad.now v.tag c.known_key-known.ensures _ c.in_default.ensures).known in
+    subst (λ (o : Own). (10 ≤ o.key.rounds) × (o.key.rounds ≤ 14)) (sym c.own_record-own.ensures) (rounds_in v.key.now known)
+
+pub start-requires-clause-lengths : goal.start-requires-clause-lengths
+start-requires-clause-lengths c =
+    let v = c.args in
+    let called = begin_fits v.form v.key.now v.nonce.now v.ad.now v.tag c.known_key-known.ensures _ c.in_default.ensures in
+    (called.nonces.0, (called.nonces.1, called.tags.1))
+
+pub start-requires-clause-ad_len_bound : goal.start-requires-clause-ad_len_bound
+start-requires-clause-ad_len_bound c =
+    let v = c.args in
+    let called = begin_fits v.form v.key.now v.nonce.now v.ad.now v.tag c.known_key-known.ensures _ c.in_default.ensures in
+    (called.data_most, subst (λ (o : Own). o.runs ≤ 1) (sym c.own_record-own.ensures) (one_at_most (with_data v.ad.now)))
+
+pub returns : goal.returns
+returns c =
+    let v = c.args in
+    c.start.ensures
+    ∙ begin_passed v.form v.key.now v.nonce.now v.ad.now v.tag c.known_key-known.ensures _ c.in_default.ensures _ c.own_record-own.ensures
