@@ -4,19 +4,22 @@
 #![tactic(auto)]
 
 ghost use Rattle.std.specs.Prelude.{◌≡◌, ◌+◌, ◌*◌, ◌≤◌, length};
-ghost use Rattle.tables.specs.Joined.{joined};
 ghost use Rattle.aes.specs.Cipher.{cipher};
+ghost use Rattle.aes.specs.Under.{cipher_under};
 ghost use Rattle.mode.specs.Form.{form_of};
 ghost use Rattle.mode.specs.declared.edition.Edition.TheVariants.{V3};
 ghost use Rattle.mode.specs.Sealing.{call_inputs};
 ghost use Rattle.mode.specs.Message.{pairs_of};
 ghost use Rattle.mode.specs.Feeding.{keeps, fed_bytes, fed_inputs, end_bytes, end_inputs};
 ghost use Rattle.link.specs.Answers.{done};
-ghost use Rattle.link.specs.Prepared.{cipher_of};
 ghost use Rattle.sealer.specs.Sealers.{standing, begun_by, fed_by, ended as ended_as};
 ghost use Rattle.sealer.specs.Promises.{StepBy, beginning, Feeds, Ends};
 
-use link::{Answer, Done, Prepared};
+use aes::RoundKeys;
+use associated::Settings;
+use joined::{Cipher, Ran};
+use link::{Answer, Done};
+use mode::{Edition, Form};
 use parts::State;
 
 mod check;
@@ -76,58 +79,70 @@ pub fn begin(form: usize, key: &[u8], nonce: &[u8], ad: &[u8], tag: usize) -> St
             sealer: ended(),
         };
     }
-    let tables = tables::joined();
-    let own = link::own_record(&tables, key, ad);
-    let made = own.key;
-    start(form, &tables, made, own.runs, nonce, ad, tag)
+    let e = link::own_cipher(key);
+    let Ran { value: q, runs } = link::own_mask(&e, ad);
+    start(form, &e, q, runs, nonce, ad, tag)
 }
 
-// A beginning whose checks have passed, under any record of a key; `before` is how many times the cipher ran for that.
+// A beginning whose checks have passed, under the cipher e and from the first mask q, whoever made them; `before` is how many times the
+// cipher ran for q.
 fn start(
     form: usize,
-    tables: &[u32; 1024],
-    key: Prepared,
+    e: &Cipher,
+    q: [u8; 16],
     before: usize,
     nonce: &[u8],
     ad: &[u8],
     tag: usize,
 ) -> Step
-    requires table_lent { tables.now ≡ joined }
-    requires round_count { (10 ≤ key.rounds) × (key.rounds ≤ 14) }
     requires lengths { (1 ≤ length nonce.now) × ((length nonce.now ≤ 15) × (tag ≤ 16)) }
     requires ad_len_bound { (length ad.now ≤ 4096) × (before ≤ 1) }
-    ensures { result ≡ record { answer = done 0 (before + length (call_inputs (cipher_of key) key.zero (V3 (form_of form)) nonce.now ad.now tag)); sealer = begun_by (cipher_of key) key.zero key.rounds key.words form nonce.now ad.now tag } }
+    ensures { result ≡ record { answer = done 0 (before + length (call_inputs (cipher_under e.now) q (V3 (form_of form)) nonce.now ad.now tag)); sealer = begun_by (cipher_under e.now) q e.now.rounds e.now.words form nonce.now ad.now tag } }
 {
-    let nr = key.rounds;
-    let w = key.words;
-    let q = key.zero;
-    let with = associated::seals_with(3, form, tables, &key.words, nr, q, nonce, ad, tag);
-    let u = with.u;
-    let added = with.added;
+    let settings = Settings {
+        edition: Edition::V3(Form::numbered(form)),
+        nonce,
+        ad,
+        tag,
+    };
+    let Ran { value: with, runs } = associated::seals_with(e, q, &settings);
+    let RoundKeys { rounds, words } = e.round_keys();
     let state = State {
-        left: u,
-        right: block::triple(u),
+        left: with.u,
+        right: block::triple(with.u),
         sum: block::zeros(),
         kept: parts::blank(),
     };
-    let begun = Sealer {
-        rounds: nr,
-        words: w,
-        state: state,
-        added: added,
-        tag: tag,
+    let sealer = Sealer {
+        rounds,
+        words,
+        state,
+        added: with.added,
+        tag,
         fed: 0,
     };
     Step {
         answer: Ok(Done {
             length: 0,
-            runs: before + with.runs,
+            runs: before + runs,
         }),
-        sealer: begun,
+        sealer,
     }
 }
 
 impl Sealer {
+    // E under the sealer's round keys.
+    fn cipher(&self) -> Cipher
+        requires { (10 ≤ self.now.rounds) × (self.now.rounds ≤ 14) }
+        ensures { result ≡ record { rounds = self.now.rounds; words = self.now.words } }
+    {
+        let words = self.words;
+        Cipher::new(RoundKeys {
+            rounds: self.rounds,
+            words,
+        })
+    }
+
     pub fn feed(mut self, part: &[u8], out: &mut [u8]) -> Step
         ensures { Feeds cipher self part.now out.old result out.new }
     {
@@ -146,7 +161,6 @@ impl Sealer {
         requires part_bound { (self.fed + length part.now ≤ 16384) × (32 * pairs_of (keeps self.fed + length part.now) ≤ length out.old) }
         ensures { StepBy (Ok (32 * pairs_of (keeps self.fed + length part.now))) (length (fed_inputs (cipher self.rounds self.words) (standing self) part.now)) (fed_bytes (cipher self.rounds self.words) (standing self) part.now) (fed_by self part.now) self out.old result out.new }
     {
-        let nr = self.rounds;
         let fed = self.fed;
         let state = self.state;
         let held = check::kept(fed);
@@ -161,14 +175,13 @@ impl Sealer {
                 sealer: self,
             };
         }
-        let tables = tables::joined();
-        let pass = parts::feed(&tables, &self.words, nr, state, held, n, part, out);
-        let next = pass.state;
+        let e = self.cipher();
+        let Ran { value: next, runs } = parts::feed(&e, state, held, n, part, out);
         self.state = next;
         Step {
             answer: Ok(Done {
                 length: 32 * n,
-                runs: pass.runs,
+                runs,
             }),
             sealer: self,
         }
@@ -187,26 +200,23 @@ impl Sealer {
     }
 
     // An end whose checks have passed.
-    fn give_rest(mut self, out: &mut [u8]) -> Step
+    fn give_rest(self, out: &mut [u8]) -> Step
         requires round_count { (10 ≤ self.rounds) × ((self.rounds ≤ 14) × (self.tag ≤ 16)) }
         requires room { keeps self.fed + self.tag ≤ length out.old }
         ensures { StepBy (Ok (keeps self.fed + self.tag)) (length (end_inputs (cipher self.rounds self.words) (standing self))) (end_bytes (cipher self.rounds self.words) self.added self.tag (standing self)) ended_as self out.old result out.new }
     {
-        let nr = self.rounds;
         let tag = self.tag;
         let state = self.state;
         let added = self.added;
         let held = check::kept(self.fed);
-        let tables = tables::joined();
-        let runs = parts::end(&tables, &self.words, nr, state, held, added, tag, out);
-        let none = ended();
-        self = none;
+        let e = self.cipher();
+        let runs = parts::end(&e, state, held, added, tag, out);
         Step {
             answer: Ok(Done {
                 length: held + tag,
-                runs: runs,
+                runs,
             }),
-            sealer: self,
+            sealer: ended(),
         }
     }
 }

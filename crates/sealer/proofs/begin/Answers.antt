@@ -1,8 +1,7 @@
 -- `sealer::begin` meets its promise. Assumes nothing.
 use Rattle.std.proofs.Common.{◌≤◌, Err, sym, ap, subst, ◌∙◌}
 use Rattle.mode.specs.Data.{with_data}
-use Rattle.link.specs.declared.prepared.Own.{Own}
-use Rattle.link.proofs.Entries.{rounds_in, one_at_most}
+use Rattle.link.proofs.Entries.{one_at_most}
 use Rattle.sealer.specs.declared.Sealer.{Sealer}
 use Rattle.sealer.proofs.Begins.{begin_refused, begin_fits, begin_passed}
 use Rattle.sealer.proofs.begin.Goals as goal
@@ -13,16 +12,10 @@ returns-in-Err c =
     ap (λ (x : Sealer). record { answer = Err c.in-Err.refusal; sealer = x }) c.ended.ensures
     ∙ begin_refused v.form v.key.now v.nonce.now v.ad.now v.tag c.known_key-known.ensures _ c.in-Err.ensures
 
-pub own_record-own-requires-clause-known : goal.own_record-own-requires-clause-known
-own_record-own-requires-clause-known c =
+pub own_cipher-e-requires : goal.own_cipher-e-requires
+own_cipher-e-requires c =
     let v = c.args in
     (begin_fits v.form v.key.now v.nonce.now v.ad.now v.tag c.known_key-known.ensures _ c.in_default.ensures).known
-
-pub start-requires-clause-round_count : goal.start-requires-clause-round_count
-start-requires-clause-round_count c =
-    let v = c.args in
-    let known = (begin_fits v.form v.key.now v.nonce.now v.ad.now v.tag c.known_key-known.ensures _ c.in_default.ensures).known in
-    subst (λ (o : Own). (10 ≤ o.key.rounds) × (o.key.rounds ≤ 14)) (sym c.own_record-own.ensures) (rounds_in v.key.now known)
 
 pub start-requires-clause-lengths : goal.start-requires-clause-lengths
 start-requires-clause-lengths c =
@@ -34,10 +27,11 @@ pub start-requires-clause-ad_len_bound : goal.start-requires-clause-ad_len_bound
 start-requires-clause-ad_len_bound c =
     let v = c.args in
     let called = begin_fits v.form v.key.now v.nonce.now v.ad.now v.tag c.known_key-known.ensures _ c.in_default.ensures in
-    (called.data_most, subst (λ (o : Own). o.runs ≤ 1) (sym c.own_record-own.ensures) (one_at_most (with_data v.ad.now)))
+    (called.data_most, rw c.own_mask.ensures.runs_value (one_at_most (with_data v.ad.now)))
 
 pub returns : goal.returns
 returns c =
     let v = c.args in
+    let mask = c.own_mask.ensures in
     c.start.ensures
-    ∙ begin_passed v.form v.key.now v.nonce.now v.ad.now v.tag c.known_key-known.ensures _ c.in_default.ensures _ c.own_record-own.ensures
+    ∙ begin_passed v.form v.key.now v.nonce.now v.ad.now v.tag c.known_key-known.ensures _ c.in_default.ensures _ _ _ c.own_cipher-e.ensures mask.block_value mask.runs_value

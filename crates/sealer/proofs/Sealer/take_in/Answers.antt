@@ -44,8 +44,8 @@ returns-then-n-eq0 c =
       sym (ap (λ (n : ℕ). lay 0 (pairs E k n y) c.args.out.now) none-due ∙ front_none c.args.out.now),
     )
 
-pub feed-pass-requires-clause-held_bound : goal.feed-pass-requires-clause-held_bound
-feed-pass-requires-clause-held_bound c =
+pub feed-requires-clause-held_bound : goal.feed-requires-clause-held_bound
+feed-requires-clause-held_bound c =
     let v = c.args in
     let most = keeps_most v.self.fed in
     let due = ap (λ (n : ℕ). pairs_of (n + length v.part.now)) c.kept-held.ensures in
