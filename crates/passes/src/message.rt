@@ -2,6 +2,7 @@
 // them.
 ghost use Rattle.std.specs.Prelude.{◌≡◌, List, ℕ, ◌+◌, ◌≤◌, length};
 ghost use Rattle.lists.specs.Lay.{lay};
+ghost use Rattle.lists.specs.Zeros.{zeros};
 ghost use Rattle.aes.specs.Under.{cipher_under};
 ghost use Rattle.mode.specs.Masks.{masks_of};
 ghost use Rattle.mode.specs.Message.{pairs_of, pairs, pairs_inputs, body, te as te_of};
@@ -21,37 +22,35 @@ struct Start {
     step: Masks<[u8; 16]>,
 }
 
+impl Start {
+    // Nothing is XORed into L.
+    fn new(left: [u8; 16], right: [u8; 16], right_step: [u8; 16]) -> Start
+        ensures first_value { (result.first.left ≡ left) × (result.first.right ≡ right) }
+        ensures step_value { (result.step.left ≡ zeros 16) × (result.step.right ≡ right_step) }
+    {
+        let none = block::zeros();
+        Start {
+            first: Masks { left, right },
+            step: Masks {
+                left: none,
+                right: right_step,
+            },
+        }
+    }
+}
+
 fn start_of(edition: Edition, u: [u8; 16]) -> Start
     ensures { Carries (masks_of edition u) result.first.left result.step.left result.first.right result.step.right }
 {
-    let none = block::zeros();
     let three = block::triple(u);
     match edition {
         Edition::V1 => {
-            let four = u.double().double();
+            let two = u.double();
+            let four = two.double();
             // 2(L ⊕ δ) is 2L ⊕ 2δ, and with 3δ it is 2L ⊕ δ
-            let step = Masks {
-                left: none,
-                right: three,
-            };
-            Start {
-                first: Masks {
-                    left: four,
-                    right: four.xor(u),
-                },
-                step,
-            }
+            Start::new(four, four.xor(u), three)
         }
-        Edition::V3(_) => Start {
-            first: Masks {
-                left: u,
-                right: three,
-            },
-            step: Masks {
-                left: none,
-                right: none,
-            },
-        },
+        Edition::V3(_) => Start::new(u, three, block::zeros()),
     }
 }
 

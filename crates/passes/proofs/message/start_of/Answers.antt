@@ -43,7 +43,10 @@ pub returns-in-V1 : goal.returns-in-V1
 returns-in-V1 c =
     let u = c.args.u in
     let bytes : Bytes u = λ i. let byte : Fits w8 (get_or u i 0) = search rules in byte.fits in
-    rw (c.in-V1.is, c.xor.ensures, c.double-four.ensures, c.double.ensures, c.zeros-none.ensures, c.triple-three.ensures) (first-carries u (search rules) bytes)
+    let start = c.new.ensures in
+    rw (c.in-V1.is, start.first_value.0, start.first_value.1, start.step_value.0, start.step_value.1, c.xor.ensures, c.double-four.ensures, c.double-two.ensures, c.triple-three.ensures) (first-carries u (search rules) bytes)
 
 pub returns-in-V3 : goal.returns-in-V3
-returns-in-V3 c = rw (c.in-V3.is, c.zeros-none.ensures, c.triple-three.ensures) (third-carries c.args.u (search rules))
+returns-in-V3 c =
+    let start = c.new-in-V3.ensures in
+    rw (c.in-V3.is, start.first_value.0, start.first_value.1, start.step_value.0, start.step_value.1, c.triple-three.ensures, c.zeros.ensures) (third-carries c.args.u (search rules))
