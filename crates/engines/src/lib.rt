@@ -4,7 +4,7 @@
 
 ghost use Rattle.engines.specs.Promises.{SealsPlanned, Plans};
 
-use link::{Answer, number};
+use link::{Answer, Done, Refusal};
 
 mod carried_out;
 
@@ -20,7 +20,7 @@ pub fn seal_planned(
     ensures { SealsPlanned key.now nonce.now ad.now message.now tag plan.now out.old result out.new }
 {
     let known = link::known_key(key.len());
-    let answer = link::seal_check(
+    let length = link::seal_check(
         3,
         0,
         known,
@@ -29,12 +29,9 @@ pub fn seal_planned(
         ad.len(),
         message.len(),
         out.len(),
-    );
-    if number(answer) != 0 {
-        return answer;
-    }
+    )?;
     if !plans::accepted(plan, pairs::pairs_of(message.len())) {
-        return Answer::Plan;
+        return Err(Refusal::Plan);
     }
     let tables = tables::joined();
     let own = link::own_record(&tables, key, ad);
@@ -53,26 +50,27 @@ pub fn seal_planned(
         plan,
         out,
     );
-    Answer::Done {
-        length: message.len() + tag,
+    Ok(Done {
+        length: length,
         runs: own.runs + ran,
-    }
+    })
 }
 
 // A plan for a message of so many bytes: the pairs in their order, and the engines in turn.
+#[tactic(auto, unfolding(crate::specs::Promises::Plans))]
 pub fn plan(message: usize, out: &mut [u8]) -> Answer
     ensures { Plans message out.old result out.new }
 {
     if 16384 < message {
-        return Answer::Length;
+        return Err(Refusal::Length);
     }
     let n = pairs::pairs_of(message);
     if out.len() < 3 * n {
-        return Answer::Room;
+        return Err(Refusal::Room);
     }
     plans::put_plan(n, out);
-    Answer::Done {
+    Ok(Done {
         length: 3 * n,
         runs: 0,
-    }
+    })
 }

@@ -9,19 +9,19 @@ use Rattle.link.specs.declared.answer.Refusal.{Refusal}
 use Rattle.link.specs.declared.answer.Refusal.TheVariants.{Key, Nonce, Tag, Data, Length, Room, Forged, Form, Ended, Edition, SameKey, Plan}
 
 -- no refusal has the number of what is done
-pub refused : (r : Refusal) → number_of (Err r) ≡ 0 → ⊥
-refused Key z = omega arith
-refused Nonce z = omega arith
-refused Tag z = omega arith
-refused Data z = omega arith
-refused Length z = omega arith
-refused Room z = omega arith
-refused (Forged k) z = omega arith
-refused Form z = omega arith
-refused Ended z = omega arith
-refused Edition z = omega arith
-refused SameKey z = omega arith
-refused Plan z = omega arith
+pub never_0 : (r : Refusal) → number_of (Err r) ≡ 0 → ⊥
+never_0 Key z = omega arith
+never_0 Nonce z = omega arith
+never_0 Tag z = omega arith
+never_0 Data z = omega arith
+never_0 Length z = omega arith
+never_0 Room z = omega arith
+never_0 (Forged k) z = omega arith
+never_0 Form z = omega arith
+never_0 Ended z = omega arith
+never_0 Edition z = omega arith
+never_0 SameKey z = omega arith
+never_0 Plan z = omega arith
 
 -- done with n bytes after k runs; forged after k runs; for a plan; or another refusal, which has a number of at most 11, no length and no
 -- runs, and is the answer that its number stands for

@@ -40,7 +40,7 @@ use Rattle.link.proofs.Verdicts.{sure, SealFits, OpenFits, seal_verdict, open_ve
 
 -- ---- the checks, as an entry point goes by them: whether the key is known was looked at before, and k is what that gave
 module _ (edition form : ℕ) {k known : Bool} (same : k ≡ known) (nonce t ad : ℕ) where
-  looked_at : (next : Check) → call_check edition form k nonce t ad next ≡ call_check edition form known nonce t ad next
+  pub looked_at : (next : Check) → call_check edition form k nonce t ad next ≡ call_check edition form known nonce t ad next
   looked_at next = ap (λ (b : Bool). call_check edition form b nonce t ad next) same
 
   -- where they stop, the call stops with their refusal, and the buffer stays

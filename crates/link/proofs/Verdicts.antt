@@ -14,7 +14,7 @@ use Rattle.link.specs.Checks.{Check, from_to, unless, known_edition, last_form, 
 use Rattle.link.specs.Promises.{SealsBy}
 use Rattle.link.specs.declared.answer.Refusal.{Refusal}
 use Rattle.link.specs.declared.answer.Refusal.TheVariants.{Key, Nonce, Tag, Data, Length, Room, Form, Edition}
-use Rattle.link.proofs.Answers.{refused}
+use Rattle.link.proofs.Answers.{never_0}
 
 -- the checks c come to n with P known, or stop at a refusal
 pub data Verdict (P : Type 0) {A : Type 0} (n : A) (c : Result A Refusal) : Type 0 where
@@ -34,7 +34,7 @@ sealing_done (passes p e) k bytes out r after h z =
     (p, q.0, q.1)
 sealing_done (stops x e) k bytes out r after h z =
     let q = subst (λ (c : Check). SealsBy c k bytes out r after) e h in
-    absurd (refused x (sym (ap number_of q.0) ∙ z))
+    absurd (never_0 x (sym (ap number_of q.0) ∙ z))
 
 -- one check more in front
 pub checked : {P A : Type 0} {n : A} {c : Result A Refusal} (b : Bool) (r : Refusal) → (b ≡ true → Verdict P n c) → Verdict P n (unless b r c)
