@@ -12,10 +12,10 @@ use Rattle.lists.specs.Lay.{lay}
 use Rattle.lists.specs.Zeros.{zeros}
 use Rattle.aes.specs.Cipher.{cipher}
 use Rattle.aes.specs.Expansion.{key_rounds, key_expansion, aes}
-use Rattle.aes.specs.Key.{expanded}
+use Rattle.aes.specs.Key.{expanded_as, expansion_of, expanded}
 use Rattle.aes.specs.Under.{cipher_under}
 use Rattle.aes.specs.declared.key.RoundKeys.{RoundKeys}
-use Rattle.aes.proofs.Keys.{Usable, usable}
+use Rattle.aes.proofs.Keys.{Usable, usable, accepted as key_accepted}
 use Rattle.mode.specs.Edition.{edition_of}
 use Rattle.mode.specs.declared.edition.Edition.{Edition}
 use Rattle.mode.specs.Masks.{IsCipher}
@@ -27,11 +27,12 @@ use Rattle.mode.proofs.Otr.{otr_opens}
 use Rattle.mode.proofs.Own.{own_otr, own_runs, own_found_runs}
 use Rattle.passes.specs.Shown.{flag}
 use Rattle.pairs.proofs.Cipher.{is_cipher, length-ta}
-use Rattle.std.specs.Prelude.{Ok, Err}
+use Rattle.std.specs.Prelude.{Option, Some, Ok, Err, option_map, unwrap_or}
+use Rattle.std.proofs.Math.Nat.{zero-add}
 use Rattle.link.specs.Answers.{Answer, done}
 use Rattle.link.specs.Checks.{Check, known_key, known_rounds, call_check, seal_next, open_next}
 use Rattle.link.specs.Prepared.{cipher_of, record_of}
-use Rattle.link.specs.Promises.{sealing, seal_runs, open_runs, SealsBy, opened_as, OpensBy}
+use Rattle.link.specs.Promises.{sealing, seal_runs, open_runs, SealsBy, opened_as, OpensBy, sealing_with, seal_runs_with, open_runs_with}
 use Rattle.link.specs.declared.answer.Refusal.{Refusal}
 use Rattle.link.specs.declared.answer.Refusal.TheVariants.{Forged}
 use Rattle.link.specs.declared.prepared.Prepared.{Prepared}
@@ -109,6 +110,14 @@ module _ (key : List ℕ) (known : known_key (length key) ≡ true) where
   pub rounds_known_lem : known_rounds (expanded key).rounds ≡ true
   rounds_known_lem = ap known_rounds keyed.rounds ∙ known_rounds_lem (length key) _ keyed.known
 
+  -- it has round keys
+  pub expands : expansion_of key ≡ Some (expanded key)
+  unfolding expanded
+  expands =
+      let s = size_known (length key) known in
+      let is = ap (option_map (expanded_as key)) s.1 in
+      is ∙ ap Some (sym (ap (λ (o : Option RoundKeys). unwrap_or o (record { rounds = 0; words = zeros 240 })) is))
+
   pub cipher_is : cipher (expanded key).rounds (expanded key).words ≡ aes key
   cipher_is = fun_ext keyed.ciphers
 
@@ -119,31 +128,63 @@ module _ (key : List ℕ) (known : known_key (length key) ≡ true) where
   -- under the cipher of its own a call with a raw key seals and opens as under the key, and its runs and those for the first mask are the
   -- key's. c is what the checks came to, i bytes
   module _
-    (edition form : ℕ) (nonce ad : List ℕ) (t : ℕ) (e : RoundKeys) (q : List ℕ) (n : ℕ) (is : e ≡ expanded key)
-    (q_is : q ≡ first_q (cipher_under e) (with_data ad)) (n_is : n ≡ length (q_inputs (with_data ad)))
+      (edition form : ℕ) (f : Edition) (f_is : f ≡ edition_of edition form) (nonce ad : List ℕ) (t : ℕ) (e : RoundKeys) (q : List ℕ) (n : ℕ)
+      (is : e ≡ expanded key) (q_is : q ≡ first_q (cipher_under e) (with_data ad)) (n_is : n ≡ length (q_inputs (with_data ad)))
     where
-    E_is : cipher_under e ≡ aes key
-    E_is = ap cipher_under is ∙ cipher_is
+      E_is : cipher_under e ≡ aes key
+      E_is = ap cipher_under is ∙ cipher_is
 
-    under_key : {A : Type 0} (f : (List ℕ → List ℕ) → List ℕ → A) → f (cipher_under e) q ≡ f (aes key) (first_q (aes key) (with_data ad))
-    under_key f = ap₂ f E_is (q_is ∙ ap (λ (E : List ℕ → List ℕ). first_q E (with_data ad)) E_is)
+      under_key : {A : Type 0} (g : Edition → (List ℕ → List ℕ) → List ℕ → A)
+          → g f (cipher_under e) q ≡ g (edition_of edition form) (aes key) (first_q (aes key) (with_data ad))
+      under_key g =
+          ap (λ (h : Edition). g h (cipher_under e) q) f_is
+          ∙ ap₂ (g (edition_of edition form)) E_is (q_is ∙ ap (λ (E : List ℕ → List ℕ). first_q E (with_data ad)) E_is)
 
-    sealing_is : otr_from (cipher_under e) q (edition_of edition form) nonce ad t ≡ sealing edition form key nonce ad t
-    sealing_is = under_key (λ E x. otr_from E x (edition_of edition form) nonce ad t) ∙ own_otr (aes key) (edition_of edition form) nonce t ad
+      sealing_is : otr_from (cipher_under e) q f nonce ad t ≡ sealing edition form key nonce ad t
+      sealing_is = under_key (λ h E x. otr_from E x h nonce ad t) ∙ own_otr (aes key) (edition_of edition form) nonce t ad
 
-    pub own_seals : (c : Check) (i : ℕ) → c ≡ Ok i → (m out : List ℕ) (r : Answer) (after : List ℕ)
-        → SealsBy (Ok i) (n + length (from_inputs (cipher_under e) q (edition_of edition form) nonce ad t m)) (otr_from (cipher_under e) q (edition_of edition form) nonce ad t m) out r after
-        → SealsBy c (seal_runs edition form key nonce ad t m) (sealing edition form key nonce ad t m) out r after
-    own_seals c i come m out r after p =
-        let runs_are = ap₂ ◌+◌ n_is (under_key (λ E x. length (from_inputs E x (edition_of edition form) nonce ad t m))) ∙ own_runs (aes key) (edition_of edition form) nonce t ad m in
-        come_to_seal c i come _ _ _ _ out r after runs_are (ap (λ (seal : List ℕ → List ℕ). seal m) sealing_is) p
+      pub own_seals : (c : Check) (i : ℕ) → c ≡ Ok i → (m out : List ℕ) (r : Answer) (after : List ℕ)
+          → SealsBy (Ok i) (n + length (from_inputs (cipher_under e) q f nonce ad t m)) (otr_from (cipher_under e) q f nonce ad t m) out r after
+          → SealsBy c (seal_runs edition form key nonce ad t m) (sealing edition form key nonce ad t m) out r after
+      own_seals c i come m out r after p =
+          let runs_are = ap₂ ◌+◌ n_is (under_key (λ h E x. length (from_inputs E x h nonce ad t m))) ∙ own_runs (aes key) (edition_of edition form) nonce t ad m in
+          come_to_seal c i come _ _ _ _ out r after runs_are (ap (λ (seal : List ℕ → List ℕ). seal m) sealing_is) p
 
-    pub own_opens : (c : Check) (i : ℕ) → c ≡ Ok i → (s out : List ℕ) (r : Answer) (after : List ℕ)
-        → OpensBy (Ok i) (n + length (found_from_inputs (cipher_under e) q (edition_of edition form) nonce ad t s)) (otr_from (cipher_under e) q (edition_of edition form) nonce ad t) s out r after
-        → OpensBy c (open_runs edition form key nonce ad t s) (sealing edition form key nonce ad t) s out r after
-    own_opens c i come s out r after p =
-        let runs_are = ap₂ ◌+◌ n_is (under_key (λ E x. length (found_from_inputs E x (edition_of edition form) nonce ad t s))) ∙ own_found_runs (aes key) (edition_of edition form) nonce t ad s in
-        come_to_open c i come _ _ _ _ s out r after runs_are sealing_is p
+      pub own_opens : (c : Check) (i : ℕ) → c ≡ Ok i → (s out : List ℕ) (r : Answer) (after : List ℕ)
+          → OpensBy (Ok i) (n + length (found_from_inputs (cipher_under e) q f nonce ad t s)) (otr_from (cipher_under e) q f nonce ad t) s out r after
+          → OpensBy c (open_runs edition form key nonce ad t s) (sealing edition form key nonce ad t) s out r after
+      own_opens c i come s out r after p =
+          let runs_are = ap₂ ◌+◌ n_is (under_key (λ h E x. length (found_from_inputs E x h nonce ad t s))) ∙ own_found_runs (aes key) (edition_of edition form) nonce t ad s in
+          come_to_open c i come _ _ _ _ s out r after runs_are sealing_is p
+
+-- under the cipher of a record p it seals and opens as under the record
+module _
+    (edition form : ℕ) (f : Edition) (f_is : f ≡ edition_of edition form) (nonce ad : List ℕ) (t : ℕ) (p : Prepared) (e : RoundKeys)
+    (is : e ≡ record { rounds = p.rounds; words = p.words })
+  where
+    under_it : {A : Type 0} (g : Edition → (List ℕ → List ℕ) → A) → g f (cipher_under e) ≡ g (edition_of edition form) (cipher_of p)
+    under_it g = ap (λ (h : Edition). g h (cipher_under e)) f_is ∙ ap (λ (k : RoundKeys). g (edition_of edition form) (cipher_under k)) is
+
+    pub record_seals : (c : Check) (i : ℕ) → c ≡ Ok i → (m out : List ℕ) (r : Answer) (after : List ℕ)
+        → SealsBy (Ok i) (0 + length (from_inputs (cipher_under e) p.zero f nonce ad t m)) (otr_from (cipher_under e) p.zero f nonce ad t m) out r after
+        → SealsBy c (seal_runs_with edition form p nonce ad t m) (sealing_with edition form p nonce ad t m) out r after
+    record_seals c i come m out r after =
+        come_to_seal c i come _ _ _ _ out r after (zero-add _ ∙ under_it (λ h E. length (from_inputs E p.zero h nonce ad t m)))
+        (under_it (λ h E. otr_from E p.zero h nonce ad t m))
+
+    pub record_opens : (c : Check) (i : ℕ) → c ≡ Ok i → (s out : List ℕ) (r : Answer) (after : List ℕ)
+        → OpensBy (Ok i) (0 + length (found_from_inputs (cipher_under e) p.zero f nonce ad t s)) (otr_from (cipher_under e) p.zero f nonce ad t) s out r after
+        → OpensBy c (open_runs_with edition form p nonce ad t s) (sealing_with edition form p nonce ad t) s out r after
+    record_opens c i come s out r after =
+        come_to_open c i come _ _ _ _ s out r after (zero-add _ ∙ under_it (λ h E. length (found_from_inputs E p.zero h nonce ad t s)))
+        (under_it (λ h E. otr_from E p.zero h nonce ad t))
+
+-- the round keys that a key has are its own, as many as a cipher takes
+pub keys_are : (key : List ℕ) (k : RoundKeys) → expansion_of key ≡ Some k → (k ≡ expanded key) × ((10 ≤ k.rounds) × (k.rounds ≤ 14))
+keys_are key k e =
+    let a = key_accepted key k e in
+    let rounds = ap (λ (x : RoundKeys). x.rounds) a.0 in
+    (sym a.0, (omega (arith, rounds, a.1.rounds, a.1.least), omega (arith, rounds, a.1.rounds, a.1.most)))
 
 pub aes_cipher : (key : List ℕ) → IsCipher (aes key)
 unfolding aes

@@ -5,6 +5,7 @@ use mathlib.Core.Bool.{Bool, true, false, ◌||◌}
 use Prim.Native.Nat.{ℕ}
 use native.Mathlib.Omega.{arith}
 use lib.Dec.{eqb}
+use Rattle.std.specs.Option.{is_some}
 use Rattle.std.specs.Prelude.{Option, Some, None}
 use Rattle.aes.specs.Key.{known, pick_size, size_of}
 use Rattle.aes.specs.declared.key.KeySize.{KeySize}
@@ -15,24 +16,26 @@ abbrev pub Says : Option KeySize → Bool → Type 0
 Says (Some s) b = (b ≡ true) × (known_rounds s.rounds ≡ true)
 Says None b = b ≡ false
 
-says : (k : ℕ) → Says (size_of k) (eqb k 16 || (eqb k 24 || eqb k 32))
+says : (k : ℕ) → Says (size_of k) (eqb k 16 || (eqb k 24 || eqb k 32)) × (is_some (size_of k) ≡ (eqb k 16 || (eqb k 24 || eqb k 32)))
 unfolding size_of
 says k = go (eqb k 16) (eqb k 24) (eqb k 32)
   where
-    go : (a b c : Bool) → Says (pick_size a (known 10 44) (pick_size b (known 12 52) (pick_size c (known 14 60) None))) (a || (b || c))
-    go true b c = (refl, refl)
-    go false true c = (refl, refl)
-    go false false true = (refl, refl)
-    go false false false = refl
+    go : (a b c : Bool)
+        → let s = pick_size a (known 10 44) (pick_size b (known 12 52) (pick_size c (known 14 60) None)) in
+        Says s (a || (b || c)) × (is_some s ≡ (a || (b || c)))
+    go true b c = ((refl, refl), refl)
+    go false true c = ((refl, refl), refl)
+    go false false true = ((refl, refl), refl)
+    go false false false = (refl, refl)
 
-pub known_size : (k : ℕ) (s : KeySize) → size_of k ≡ Some s → (eqb k 16 || (eqb k 24 || eqb k 32)) ≡ true
-known_size k s e = (rw e at (says k)).0
+pub some_known : (k : ℕ) → is_some (size_of k) ≡ (eqb k 16 || (eqb k 24 || eqb k 32))
+some_known k = (says k).1
 
 pub known_rounds_lem : (k : ℕ) (s : KeySize) → size_of k ≡ Some s → known_rounds s.rounds ≡ true
-known_rounds_lem k s e = (rw e at (says k)).1
+known_rounds_lem k s e = (rw e at (says k).0).1
 
 pub unknown_size : (k : ℕ) → size_of k ≡ None → (eqb k 16 || (eqb k 24 || eqb k 32)) ≡ false
-unknown_size k e = rw e at (says k)
+unknown_size k e = rw e at (says k).0
 
 pub size_known : (k : ℕ) → (eqb k 16 || (eqb k 24 || eqb k 32)) ≡ true → (s : KeySize) × (size_of k ≡ Some s)
 size_known k h = go (size_of k) refl

@@ -13,13 +13,12 @@ mod prepared;
 mod under;
 
 pub use answer::{Answer, Done, Refusal, length, number, runs};
-pub use check::{call_check, from_to, known_key, known_rounds, seal_check};
-pub use parameters::Parameters;
-pub use prepared::{Preparation, Prepared, own_cipher, own_mask, prepare};
-
 use associated::Settings;
+pub use check::{call_check, from_to, known_key, known_rounds, seal_check};
 use joined::Ran;
 use mode::Edition;
+pub use parameters::Parameters;
+pub use prepared::{Preparation, Prepared, own_cipher, own_mask, prepare};
 
 pub fn seal(
     edition: usize,
@@ -119,7 +118,8 @@ pub fn seal_with(
         ad,
         tag,
     };
-    under::seal(&key.cipher(), key.zero, 0, &s, message, out)
+    let e = key.cipher();
+    under::seal(&e, key.zero, 0, &s, message, out)
 }
 
 pub fn open_with(
@@ -151,5 +151,6 @@ pub fn open_with(
         ad,
         tag,
     };
-    under::open(&key.cipher(), key.zero, 0, &s, sealed, out)
+    let e = key.cipher();
+    under::open(&e, key.zero, 0, &s, sealed, out)
 }

@@ -69,8 +69,8 @@ pub fn prepare(key: &[u8]) -> Preparation
             answer: Err(Refusal::Key),
             key: Prepared {
                 rounds: 0,
-                words: [0; 240],
-                zero: [0; 16],
+                words: lists::blank(),
+                zero: lists::blank(),
             },
         };
     };

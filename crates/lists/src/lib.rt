@@ -7,6 +7,13 @@ ghost use Rattle.lists.specs.Lay.{lay as laid};
 ghost use Rattle.lists.specs.Same.{same};
 ghost use Rattle.lists.specs.Zeros.{zeros};
 
+// A buffer of zeros, as long as it is taken for.
+pub fn blank<const N: usize>() -> [u8; N]
+    ensures { result ≡ zeros N }
+{
+    [0; N]
+}
+
 // Writes new into out from place at on.
 pub fn lay(out: &mut [u8], at: usize, new: &[u8])
     requires { at + length new.now ≤ length out.old }

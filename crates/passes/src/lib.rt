@@ -11,59 +11,39 @@ ghost use Rattle.mode.specs.Sealing.{otr_from, from_inputs};
 ghost use Rattle.mode.specs.Undoing.{found_from, found_from_inputs};
 ghost use Rattle.passes.specs.Shown.{shown, flag};
 
+use associated::Settings;
 use block::Block;
 use joined::{Cipher, Ran};
-use mode::Edition;
 
 mod message;
 
 pub use message::seal_behind;
 
-// Seals the message m with nonce n and associated data a into out: the ciphertext, and t bytes of tag behind it. Says how many times
-// the cipher ran.
-pub fn seal(
-    edition: Edition,
-    e: &Cipher,
-    q: [u8; 16],
-    n: &[u8],
-    a: &[u8],
-    m: &[u8],
-    t: usize,
-    out: &mut [u8],
-) -> usize
-    requires lengths { (1 ≤ length n.now) × ((length n.now ≤ 15) × (t ≤ 16)) }
-    requires room { length m.now + t ≤ length out.old }
-    ensures out_after { out.new ≡ lay 0 (otr_from (cipher_under e.now) q edition n.now a.now t m.now) out.old }
-    ensures runs_value { result ≡ length (from_inputs (cipher_under e.now) q edition n.now a.now t m.now) }
+// Seals the message m with the settings s into out: the ciphertext, and the tag behind it. Says how many times the cipher ran.
+pub fn seal(e: &Cipher, q: [u8; 16], s: &Settings, m: &[u8], out: &mut [u8]) -> usize
+    requires room { length m.now + s.now.tag ≤ length out.old }
+    ensures out_after { out.new ≡ lay 0 (otr_from (cipher_under e.now) q s.now.edition s.now.nonce.now s.now.ad.now s.now.tag m.now) out.old }
+    ensures runs_value { result ≡ length (from_inputs (cipher_under e.now) q s.now.edition s.now.nonce.now s.now.ad.now s.now.tag m.now) }
 {
-    let with = associated::seals_with(edition, e, q, n, a, t);
-    let te = message::seal(edition, e, with.value.u, m, out);
-    ends::put_tag(te.value, with.value.added, t, m.len(), out);
+    let with = associated::seals_with(e, q, s);
+    let te = message::seal(s.edition, e, with.value.u, m, out);
+    ends::put_tag(te.value, with.value.added, s.tag, m.len(), out);
     with.runs + te.runs
 }
 
-// Opens s, whose last t bytes are the tag, into out, and says whether the tag matches. Where it does not, the message is cleared.
-pub fn open(
-    edition: Edition,
-    e: &Cipher,
-    q: [u8; 16],
-    n: &[u8],
-    a: &[u8],
-    s: &[u8],
-    t: usize,
-    out: &mut [u8],
-) -> Ran<bool>
-    requires lengths { (1 ≤ length n.now) × ((length n.now ≤ 15) × (t ≤ 16)) }
-    requires room { (t ≤ length s.now) × (length s.now - t ≤ length out.old) }
-    ensures matches_value { result.value ≡ flag (found_from (cipher_under e.now) q edition n.now a.now t s.now) }
-    ensures out_after { out.new ≡ shown (found_from (cipher_under e.now) q edition n.now a.now t s.now) (length s.now - t) out.old }
-    ensures runs_value { result.runs ≡ length (found_from_inputs (cipher_under e.now) q edition n.now a.now t s.now) }
+// Opens what was sealed with the settings s, whose last bytes are the tag, into out, and says whether the tag matches. Where it does not,
+// the message is cleared.
+pub fn open(e: &Cipher, q: [u8; 16], s: &Settings, sealed: &[u8], out: &mut [u8]) -> Ran<bool>
+    requires room { (s.now.tag ≤ length sealed.now) × (length sealed.now - s.now.tag ≤ length out.old) }
+    ensures matches_value { result.value ≡ flag (found_from (cipher_under e.now) q s.now.edition s.now.nonce.now s.now.ad.now s.now.tag sealed.now) }
+    ensures out_after { out.new ≡ shown (found_from (cipher_under e.now) q s.now.edition s.now.nonce.now s.now.ad.now s.now.tag sealed.now) (length sealed.now - s.now.tag) out.old }
+    ensures runs_value { result.runs ≡ length (found_from_inputs (cipher_under e.now) q s.now.edition s.now.nonce.now s.now.ad.now s.now.tag sealed.now) }
 {
-    let b = s.len() - t;
-    let with = associated::seals_with(edition, e, q, n, a, t);
-    let te = message::open(edition, e, with.value.u, &s[..b], out);
+    let b = sealed.len() - s.tag;
+    let with = associated::seals_with(e, q, s);
+    let te = message::open(s.edition, e, with.value.u, &sealed[..b], out);
     let x = te.value.xor(with.value.added);
-    let matches = lists::equal(&x[..t], &s[b..]);
+    let matches = lists::equal(&x[..s.tag], &sealed[b..]);
     if !matches {
         lists::clear(out, b);
     }

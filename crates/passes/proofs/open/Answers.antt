@@ -24,30 +24,30 @@ pub overflow_add-result : goal.overflow_add-result
 overflow_add-result c =
     let v = c.args in
     let E = cipher_under v.e.now in
-    let ciphertext = take (length v.s.now - v.t) v.s.now in
-    let with = length-call_inputs E v.q v.edition v.n.now v.a.now v.t in
-    let pass = length-undone_inputs E (masks_of v.edition c.seals_with-with.result.value.u) ciphertext in
-    record { fits = omega (arith, length-take-le (length v.s.now - v.t) v.s.now) }
+    let ciphertext = take (length v.sealed.now - v.s.now.tag) v.sealed.now in
+    let with = length-call_inputs E v.q v.s.now.edition v.s.now.nonce.now v.s.now.ad.now v.s.now.tag in
+    let pass = length-undone_inputs E (masks_of v.s.now.edition c.seals_with-with.result.value.u) ciphertext in
+    record { fits = omega (arith, length-take-le (length v.sealed.now - v.s.now.tag) v.sealed.now) }
 
 pub returns : goal.returns
 returns c =
     let v = c.args in
-    let s = v.s.now in
-    let n = length s - v.t in
+    let s = v.sealed.now in
+    let n = length s - v.s.now.tag in
     let ciphertext = take n s in
     let out = v.out.now in
     let with = c.seals_with-with.ensures in
     let E = cipher_under v.e.now in
     let e = is_cipher v.e.now.rounds v.e.now.words in
-    let k = masks E v.q v.edition v.n.now v.a.now v.t in
-    let long = length-ta v.e.now.rounds v.e.now.words v.q v.edition v.a.now in
-    let are_masks = otr-masks E e v.q v.edition v.n.now v.a.now v.t long c.requires.lengths.1.0 in
+    let k = masks E v.q v.s.now.edition v.s.now.nonce.now v.s.now.ad.now v.s.now.tag in
+    let long = length-ta v.e.now.rounds v.e.now.words v.q v.s.now.edition v.s.now.ad.now in
+    let are_masks = otr-masks E e v.q v.s.now.edition v.s.now.nonce.now v.s.now.ad.now v.s.now.tag long v.s.now.nonce_length.1 in
     let plain = unbody E k ciphertext in
-    let te_is = c.open-te.ensures.block_value ∙ ap (λ (u : List ℕ). let j = masks_of v.edition u in te E j (unbody E j ciphertext)) with.u_value in
+    let te_is = c.open-te.ensures.block_value ∙ ap (λ (u : List ℕ). let j = masks_of v.s.now.edition u in te E j (unbody E j ciphertext)) with.u_value in
     let message_is : c.open-te.new.out ≡ lay 0 plain out =
-    c.open-te.ensures.out_after ∙ ap (λ (u : List ℕ). lay 0 (unbody E (masks_of v.edition u) ciphertext) out) with.u_value in
-    let is = opened_by E k (added E v.q v.edition v.n.now v.a.now v.t) v.t s _ _ _ _ te_is with.added_value c.xor-x.ensures c.equal-matches.ensures in
-    let shown_is : (b : Bool) → c.equal-matches.result ≡ b → shown (answer b plain) n out ≡ shown (found_from E v.q v.edition v.n.now v.a.now v.t s) n out =
+    c.open-te.ensures.out_after ∙ ap (λ (u : List ℕ). lay 0 (unbody E (masks_of v.s.now.edition u) ciphertext) out) with.u_value in
+    let is = opened_by E k (added E v.q v.s.now.edition v.s.now.nonce.now v.s.now.ad.now v.s.now.tag) v.s.now.tag s _ _ _ _ te_is with.added_value c.xor-x.ensures c.equal-matches.ensures in
+    let shown_is : (b : Bool) → c.equal-matches.result ≡ b → shown (answer b plain) n out ≡ shown (found_from E v.q v.s.now.edition v.s.now.nonce.now v.s.now.ad.now v.s.now.tag s) n out =
     λ b h. ap (λ (o : Opened). shown o n out) (ap (λ (b : Bool). answer b plain) (sym h) ∙ sym is) in
     record {
       matches_value = sym (ap flag is ∙ flag_by c.equal-matches.result plain);
@@ -62,6 +62,6 @@ returns c =
             | else-not-matches w ↦ w.out-is ∙ message_is ∙ shown_is _ w.if-not-matches.false
           ];
       runs_value =
-          ap₂ ◌+◌ with.runs_value (c.open-te.ensures.runs_value ∙ ap (λ (u : List ℕ). length (undone_inputs E (masks_of v.edition u) ciphertext)) with.u_value)
-          ∙ sym (length-append (call_inputs E v.q v.edition v.n.now v.a.now v.t) (undone_inputs E k ciphertext));
+          ap₂ ◌+◌ with.runs_value (c.open-te.ensures.runs_value ∙ ap (λ (u : List ℕ). length (undone_inputs E (masks_of v.s.now.edition u) ciphertext)) with.u_value)
+          ∙ sym (length-append (call_inputs E v.q v.s.now.edition v.s.now.nonce.now v.s.now.ad.now v.s.now.tag) (undone_inputs E k ciphertext));
     }
