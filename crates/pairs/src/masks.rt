@@ -43,4 +43,15 @@ impl<B: Block> Masks<B> {
             right: self.right.double().xor(step.right),
         }
     }
+
+    // The other way round, as the pair step undoes a pair.
+    pub fn swapped(self) -> Masks<B>
+        ensures left_value { result.left ≡ self.right }
+        ensures right_value { result.right ≡ self.left }
+    {
+        Masks {
+            left: self.right,
+            right: self.left,
+        }
+    }
 }

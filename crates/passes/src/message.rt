@@ -1,170 +1,124 @@
-// The message pass in the edition with the number given, from its U or δ: the pairs, the last one or two blocks, and TE; and how many
-// times the cipher ran for them.
+// The message pass in an edition, from its U or δ: the pairs, the last one or two blocks, and TE; and how many times the cipher ran for
+// them.
 ghost use Rattle.std.specs.Prelude.{◌≡◌, List, ℕ, ◌+◌, ◌≤◌, length};
 ghost use Rattle.lists.specs.Lay.{lay};
-ghost use Rattle.tables.specs.Joined.{joined};
-ghost use Rattle.aes.specs.Cipher.{cipher};
-ghost use Rattle.lists.specs.Zeros.{zeros};
-ghost use Rattle.mode.specs.Edition.{edition_of};
+ghost use Rattle.aes.specs.Under.{cipher_under};
 ghost use Rattle.mode.specs.Masks.{masks_of};
 ghost use Rattle.mode.specs.Message.{pairs_of, pairs, pairs_inputs, body, te as te_of};
 ghost use Rattle.mode.specs.Sealing.{sealed_inputs};
 ghost use Rattle.mode.specs.Undoing.{unbody, undone_inputs};
 ghost use Rattle.pairs.specs.Carries.{Carries};
 
-use pairs::Ran;
+use block::Block;
+use joined::{Cipher, Ran};
+use mode::Edition;
+use pairs::Masks;
 
-// The masks of an edition: L and L' of the first pair, and what is XORed into L' once it is doubled. Nothing is into L.
+// The masks of the first pair, and what is XORed into them once they are doubled.
 #[derive(Clone, Copy)]
 struct Start {
-    left: [u8; 16],
-    right: [u8; 16],
-    step: [u8; 16],
+    first: Masks<[u8; 16]>,
+    step: Masks<[u8; 16]>,
 }
 
-fn start_of(edition: usize, u: [u8; 16]) -> Start
-    ensures { Carries (masks_of (edition_of edition 0) u) result.left (zeros 16) result.right result.step }
+fn start_of(edition: Edition, u: [u8; 16]) -> Start
+    ensures { Carries (masks_of edition u) result.first.left result.step.left result.first.right result.step.right }
 {
+    let none = block::zeros();
     let three = block::triple(u);
-    if edition == 1 {
-        let two = block::double(u);
-        let four = block::double(two);
-        // 2(L ⊕ δ) is 2L ⊕ 2δ, and with 3δ it is 2L ⊕ δ
-        return Start {
-            left: four,
-            right: block::xor(four, u),
-            step: three,
-        };
-    }
-    Start {
-        left: u,
-        right: three,
-        step: block::zeros(),
+    match edition {
+        Edition::V1 => {
+            let four = u.double().double();
+            // 2(L ⊕ δ) is 2L ⊕ 2δ, and with 3δ it is 2L ⊕ δ
+            let step = Masks {
+                left: none,
+                right: three,
+            };
+            Start {
+                first: Masks {
+                    left: four,
+                    right: four.xor(u),
+                },
+                step,
+            }
+        }
+        Edition::V3(_) => Start {
+            first: Masks {
+                left: u,
+                right: three,
+            },
+            step: Masks {
+                left: none,
+                right: none,
+            },
+        },
     }
 }
 
-// What stands behind the pairs of the message m, from the masks l and r there: the last one or two blocks into out, and TE. Where out
-// holds the pairs, it then holds the ciphertext, and the runs are those of sealing but for the pairs'.
+// What stands behind the pairs of the message m, from the masks k there: the last one or two blocks into out, and TE. Where out holds
+// the pairs, it then holds the ciphertext, and the runs are those of sealing but for the pairs'.
+#[tactic(auto, using(mode::proofs::Counts::pairs_are))]
 pub fn seal_behind(
-    edition: usize,
-    table: &[u32; 1024],
-    w: &[u8; 240],
-    nr: usize,
+    edition: Edition,
+    e: &Cipher,
     u: [u8; 16],
-    l: [u8; 16],
-    r: [u8; 16],
+    k: Masks<[u8; 16]>,
     m: &[u8],
     out: &mut [u8],
-) -> Ran
-    requires table_lent { table.now ≡ joined }
-    requires round_count { (10 ≤ nr) × (nr ≤ 14) }
-    requires masks_there { (l ≡ (masks_of (edition_of edition 0) u).left (pairs_of (length m.now))) × (r ≡ (masks_of (edition_of edition 0) u).right (pairs_of (length m.now))) }
+) -> Ran<[u8; 16]>
+    requires masks_there { (k.left ≡ (masks_of edition u).left (pairs_of (length m.now))) × (k.right ≡ (masks_of edition u).right (pairs_of (length m.now))) }
     requires room { length m.now ≤ length out.old }
-    ensures out_after { (o : List ℕ) → out.old ≡ lay 0 (pairs (cipher nr w.now) (masks_of (edition_of edition 0) u) (pairs_of (length m.now)) m.now) o → length m.now ≤ length o → out.new ≡ lay 0 (body (cipher nr w.now) (masks_of (edition_of edition 0) u) m.now) o }
-    ensures block_value { result.block ≡ te_of (cipher nr w.now) (masks_of (edition_of edition 0) u) m.now }
-    ensures runs_value { length (pairs_inputs (cipher nr w.now) (masks_of (edition_of edition 0) u) (pairs_of (length m.now)) m.now) + result.runs ≡ length (sealed_inputs (cipher nr w.now) (masks_of (edition_of edition 0) u) m.now) }
+    ensures out_after { (o : List ℕ) → out.old ≡ lay 0 (pairs (cipher_under e.now) (masks_of edition u) (pairs_of (length m.now)) m.now) o → length m.now ≤ length o → out.new ≡ lay 0 (body (cipher_under e.now) (masks_of edition u) m.now) o }
+    ensures block_value { result.value ≡ te_of (cipher_under e.now) (masks_of edition u) m.now }
+    ensures runs_value { length (pairs_inputs (cipher_under e.now) (masks_of edition u) (pairs_of (length m.now)) m.now) + result.runs ≡ length (sealed_inputs (cipher_under e.now) (masks_of edition u) m.now) }
 {
     let n = pairs::pairs_of(m.len());
     let at = 32 * n;
     let s = pairs::sum(m, n);
-    let rest = ends::seal_rest(table, w, nr, l, r, m, at, out);
-    let e = rest.block;
-    let te = ends::te(
-        edition,
-        u,
-        table,
-        w,
-        nr,
-        l,
-        r,
-        m.len() - at,
-        block::xor(s, e),
-    );
-    let b = te.block;
+    let rest = ends::seal_rest(e, k, m, at, out);
+    let Ran { value, runs } = ends::te(edition, e, u, k, m.len() - at, s.xor(rest.value));
     Ran {
-        block: b,
-        runs: rest.runs + te.runs,
+        value,
+        runs: rest.runs + runs,
     }
 }
 
 // Seals the message m into out, and gives TE.
-pub fn seal(
-    edition: usize,
-    table: &[u32; 1024],
-    w: &[u8; 240],
-    nr: usize,
-    u: [u8; 16],
-    m: &[u8],
-    out: &mut [u8],
-) -> Ran
-    requires table_lent { table.now ≡ joined }
-    requires round_count { (10 ≤ nr) × (nr ≤ 14) }
+#[tactic(auto, using(mode::proofs::Counts::pairs_are))]
+pub fn seal(edition: Edition, e: &Cipher, u: [u8; 16], m: &[u8], out: &mut [u8]) -> Ran<[u8; 16]>
     requires room { length m.now ≤ length out.old }
-    ensures out_after { out.new ≡ lay 0 (body (cipher nr w.now) (masks_of (edition_of edition 0) u) m.now) out.old }
-    ensures block_value { result.block ≡ te_of (cipher nr w.now) (masks_of (edition_of edition 0) u) m.now }
-    ensures runs_value { result.runs ≡ length (sealed_inputs (cipher nr w.now) (masks_of (edition_of edition 0) u) m.now) }
+    ensures out_after { out.new ≡ lay 0 (body (cipher_under e.now) (masks_of edition u) m.now) out.old }
+    ensures block_value { result.value ≡ te_of (cipher_under e.now) (masks_of edition u) m.now }
+    ensures runs_value { result.runs ≡ length (sealed_inputs (cipher_under e.now) (masks_of edition u) m.now) }
 {
     let n = pairs::pairs_of(m.len());
-    let first = start_of(edition, u);
-    let x = first.left;
-    let y = first.right;
-    let step = first.step;
-    let none = block::zeros();
-    let front = pairs::pairs(table, w, nr, x, none, y, step, m, n, out);
-    let l = front.left;
-    let r = front.right;
-    let behind = seal_behind(edition, table, w, nr, u, l, r, m, out);
-    let te = behind.block;
+    let start = start_of(edition, u);
+    let front = pairs::pairs(e, start.first, start.step, m, n, out);
+    let Ran { value, runs } = seal_behind(edition, e, u, front.value, m, out);
     Ran {
-        block: te,
-        runs: front.runs + behind.runs,
+        value,
+        runs: front.runs + runs,
     }
 }
 
 // Undoes the ciphertext c into out, and gives TE of the message that was recovered.
-pub fn open(
-    edition: usize,
-    table: &[u32; 1024],
-    w: &[u8; 240],
-    nr: usize,
-    u: [u8; 16],
-    c: &[u8],
-    out: &mut [u8],
-) -> Ran
-    requires table_lent { table.now ≡ joined }
-    requires round_count { (10 ≤ nr) × (nr ≤ 14) }
+#[tactic(auto, using(mode::proofs::Counts::pairs_are))]
+pub fn open(edition: Edition, e: &Cipher, u: [u8; 16], c: &[u8], out: &mut [u8]) -> Ran<[u8; 16]>
     requires room { length c.now ≤ length out.old }
-    ensures out_after { out.new ≡ lay 0 (unbody (cipher nr w.now) (masks_of (edition_of edition 0) u) c.now) out.old }
-    ensures block_value { result.block ≡ te_of (cipher nr w.now) (masks_of (edition_of edition 0) u) (unbody (cipher nr w.now) (masks_of (edition_of edition 0) u) c.now) }
-    ensures runs_value { result.runs ≡ length (undone_inputs (cipher nr w.now) (masks_of (edition_of edition 0) u) c.now) }
+    ensures out_after { out.new ≡ lay 0 (unbody (cipher_under e.now) (masks_of edition u) c.now) out.old }
+    ensures block_value { result.value ≡ te_of (cipher_under e.now) (masks_of edition u) (unbody (cipher_under e.now) (masks_of edition u) c.now) }
+    ensures runs_value { result.runs ≡ length (undone_inputs (cipher_under e.now) (masks_of edition u) c.now) }
 {
     let n = pairs::pairs_of(c.len());
     let at = 32 * n;
-    let first = start_of(edition, u);
-    let x = first.left;
-    let y = first.right;
-    let step = first.step;
-    let none = block::zeros();
-    let front = pairs::pairs(table, w, nr, y, step, x, none, c, n, out);
-    let l = front.right;
-    let r = front.left;
+    let start = start_of(edition, u);
+    let front = pairs::pairs(e, start.first.swapped(), start.step.swapped(), c, n, out);
+    let k = front.value.swapped();
     let s = pairs::sum(out, n);
-    let rest = ends::open_rest(table, w, nr, l, r, c, at, out);
-    let e = rest.block;
-    let te = ends::te(
-        edition,
-        u,
-        table,
-        w,
-        nr,
-        l,
-        r,
-        c.len() - at,
-        block::xor(s, e),
-    );
-    let b = te.block;
+    let rest = ends::open_rest(e, k, c, at, out);
+    let Ran { value, runs } = ends::te(edition, e, u, k, c.len() - at, s.xor(rest.value));
     Ran {
-        block: b,
-        runs: front.runs + rest.runs + te.runs,
+        value,
+        runs: front.runs + rest.runs + runs,
     }
 }
