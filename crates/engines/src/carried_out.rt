@@ -42,13 +42,10 @@ fn planned_pairs(e: &Cipher, u: [u8; 16], m: &[u8], plan: &[u8], out: &mut [u8])
     ensures out_after { out.new ≡ lay 0 (pairs_of (cipher_under e.now) (third u) (count_of (length m.now)) m.now) out.old }
     ensures runs_value { result ≡ length (pairs_inputs (cipher_under e.now) (third u) (count_of (length m.now)) m.now) }
 {
-    let first: [u64; 2] = Block::of(u);
-    let n = plan.len() / 3;
-    let mut runs: usize = 0;
-    for j in 0..n {
-        let i = plans::pair_at(plan, j);
-        let ran = pair_alone(e, first, m, i, out);
-        runs += ran;
+    let u: [u64; 2] = Block::of(u);
+    let mut runs = 0;
+    for j in 0..plan.len() / 3 {
+        runs += pair_alone(e, u, m, plans::pair_at(plan, j), out);
     }
     runs
 }

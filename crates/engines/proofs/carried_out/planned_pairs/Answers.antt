@@ -21,8 +21,8 @@ pub loop-j-init : goal.loop-j-init
 unfolding written
 loop-j-init c = record { laid = refl; runs = refl }
 
-pub pair_alone-ran-requires : goal.pair_alone-ran-requires
-pair_alone-ran-requires c =
+pub pair_alone-runs-requires : goal.pair_alone-runs-requires
+pair_alone-runs-requires c =
     let below = c.requires.accepted.no_other c.loop-j.j (omega arith) in
     let within = pairs-within (length c.args.m.now) in
     record { i_in_bounds = (omega (arith, below), omega (arith, below)) }
@@ -30,11 +30,11 @@ pair_alone-ran-requires c =
 pub loop-j-preserved : goal.loop-j-preserved
 unfolding written
 loop-j-preserved c =
-    let bytes = pair_of (cipher_under c.args.e.now) (third (bytes_of c.of-first.result)) c.args.m.now in
+    let bytes = pair_of (cipher_under c.args.e.now) (third (bytes_of c.of-u.result)) c.args.m.now in
     record {
       laid =
-          c.pair_alone-ran.ensures.out_after
-          ∙ ap₂ (λ (i : ℕ) (o : List ℕ). lay (32 * i) (bytes i) o) c.pair_at-i.ensures c.loop-j.invariant.laid
+          c.pair_alone-runs.ensures.out_after
+          ∙ ap₂ (λ (i : ℕ) (o : List ℕ). lay (32 * i) (bytes i) o) c.pair_at.ensures c.loop-j.invariant.laid
           ∙ sym (ap (written bytes c.args.out.now (pair_at c.args.plan.now)) (add-one c.loop-j.j));
       runs = omega arith;
     }
@@ -42,7 +42,7 @@ loop-j-preserved c =
 pub returns : goal.returns
 returns c =
     let E = cipher_under c.args.e.now in
-    let u = bytes_of c.of-first.result in
+    let u = bytes_of c.of-u.result in
     let m = c.args.m.now in
     let plan = c.args.plan.now in
     let out = c.args.out.now in
@@ -55,8 +55,8 @@ returns c =
           c.loop-j.invariant.laid
           ∙ ap (written (pair_of E (third u) m) out (pair_at plan)) all
           ∙ ordered_pairs E (is_cipher c.args.e.now.rounds c.args.e.now.words) (third u)
-          (edition_masks (V3 Parallel) u (length-bytes c.of-first.result)) m out n within (omega arith) (pair_at plan) (entries plan) a.no_other
+          (edition_masks (V3 Parallel) u (length-bytes c.of-u.result)) m out n within (omega arith) (pair_at plan) (entries plan) a.no_other
           (λ i b. ((a.every i b).entry, (a.every i b).within, (a.every i b).for_it))
-          ∙ ap (λ (x : List ℕ). lay 0 (pairs E (third x) n m) out) c.of-first.ensures;
+          ∙ ap (λ (x : List ℕ). lay 0 (pairs E (third x) n m) out) c.of-u.ensures;
       runs_value = omega (arith, as_many n plan a, length-pairs_inputs E (third c.args.u) n m);
     }

@@ -10,6 +10,6 @@ use Rattle.engines.proofs.carried_out.planned_pairs.Given as goal
 abbrev pub invariant-loop-j : goal.invariant-loop-j
 invariant-loop-j l =
     record {
-      laid : l.out ≡ written (pair_of (cipher_under l.e) (third (bytes_of l.first)) l.m) l.fn.out (pair_at l.plan) l.j;
+      laid : l.out ≡ written (pair_of (cipher_under l.e) (third (bytes_of l.u)) l.m) l.fn.out (pair_at l.plan) l.j;
       runs : l.runs ≡ 2 * l.j;
     }
