@@ -31,13 +31,6 @@ module _ (kept : List ℕ) (long : length kept ≡ 32) (held : ℕ) where
   pub hand_long : held ≤ 32 → (x : List ℕ) → length (take held kept ++ x) ≡ held + length x
   hand_long h x = length-append (take held kept) x ∙ ap (λ (i : ℕ). i + length x) (held_long h)
 
-  -- more laid behind the held bytes
-  pub joined_laid : (more : List ℕ) → held + length more ≤ 32 → lay held more (lay 0 (take held kept) (zeros 32)) ≡ kept32 (take held kept ++ more)
-  joined_laid more h =
-      let place : held ≡ 0 + length (take held kept) = omega (arith, held_long (omega arith)) in
-      ap (λ (i : ℕ). lay i more (lay 0 (take held kept) (zeros 32))) place
-      ∙ lay-lay 0 (take held kept) more (zeros 32) (omega (arith, held_long (omega arith), length-zeros 32))
-
   module _ (part : List ℕ) (within : held ≤ 32) (enough : 32 ≤ held + length part) where
     -- all that is at hand, the first 32 bytes of it, and what follows them
     abbrev pub hand : List ℕ
@@ -69,7 +62,7 @@ module _ (kept : List ℕ) (long : length kept ≡ 32) (held : ℕ) where
 
 -- ---- p pairs, and q behind them
 module _ (l r s y : List ℕ) (p q : ℕ) where
-  pub state_add : behind_state (doubles p l) (doubles p r) (xor s (sum p y)) q (drop (32 * p) y) ≡ behind_state l r s (p + q) y
+  state_add : behind_state (doubles p l) (doubles p r) (xor s (sum p y)) q (drop (32 * p) y) ≡ behind_state l r s (p + q) y
   state_add =
       let place : 32 * p + 32 * q ≡ 32 * (p + q) = omega arith in
       ap₂ (λ (a b : List ℕ). record { left = a; right = b; sum = xor (xor s (sum p y)) (sum q (drop (32 * p) y)); kept = kept32 (drop (32 * q) (drop (32 * p) y)) })
@@ -78,7 +71,7 @@ module _ (l r s y : List ℕ) (p q : ℕ) where
       (xor_assoc s (sum p y) (sum q (drop (32 * p) y)) ∙ ap (xor s) (sym (sum_add y p q)))
       (drop-drop (32 * q) (32 * p) y ∙ ap (λ (i : ℕ). drop i y) place)
 
-  pub bytes_add : (E : List ℕ → List ℕ) → pairs E (doubled l r) p y ++ pairs E (doubled (doubles p l) (doubles p r)) q (drop (32 * p) y) ≡ pairs E (doubled l r) (p + q) y
+  bytes_add : (E : List ℕ → List ℕ) → pairs E (doubled l r) p y ++ pairs E (doubled (doubles p l) (doubles p r)) q (drop (32 * p) y) ≡ pairs E (doubled l r) (p + q) y
   bytes_add E =
       sym (pairs_add y p E (doubled l r) q ∙ ap (λ (k : Masks). pairs E (doubled l r) p y ++ pairs E k q (drop (32 * p) y)) (from_doubled p l r))
 

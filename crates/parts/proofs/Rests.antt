@@ -40,12 +40,12 @@ module _ (E : List ℕ → List ℕ) (e : IsCipher E) (k : Masks) (a : AreMasks 
   pub left_over : Remains two m
   left_over = subst (λ (t : Bool). Remains t m) two_is (subst (λ (i : ℕ). Remains (even (length m)) (drop (32 * i) m)) none (remains m))
 
-  pub body_whole : body E k m ≡ ending E two (k.left 0) (k.right 0) m
+  body_whole : body E k m ≡ ending E two (k.left 0) (k.right 0) m
   unfolding body pairs
   body_whole =
       ap₂ (λ (i : ℕ) (t : Bool). pairs E k i m ++ ending E t (k.left i) (k.right i) (drop (32 * i) m)) none two_is
 
-  pub inputs_whole : body_inputs E k m ≡ ending_inputs E two (k.left 0) (k.right 0) m
+  inputs_whole : body_inputs E k m ≡ ending_inputs E two (k.left 0) (k.right 0) m
   unfolding body_inputs pairs_inputs
   inputs_whole =
       ap₂ (λ (i : ℕ) (t : Bool). pairs_inputs E k i m ++ ending_inputs E t (k.left i) (k.right i) (drop (32 * i) m)) none two_is
