@@ -10,7 +10,7 @@ use Rattle.mode.specs.Masks.{masks_of}
 use Rattle.mode.specs.Message.{te}
 use Rattle.mode.specs.Sealing.{added, masks, call_inputs}
 use Rattle.mode.specs.Opening.{Opened}
-use Rattle.mode.specs.Undoing.{unbody, undone_inputs, answer, found_from}
+use Rattle.mode.specs.Undoing.{unbody, undone_inputs, answer, opened}
 use Rattle.mode.proofs.Walk.{length-unbody}
 use Rattle.mode.proofs.Otr.{otr-masks}
 use Rattle.mode.proofs.Runs.{length-call_inputs, length-undone_inputs}
@@ -43,11 +43,13 @@ returns c =
     let long = length-ta v.e.now.rounds v.e.now.words v.q v.edition v.a.now in
     let are_masks = otr-masks E e v.q v.edition v.n.now v.a.now v.t long c.requires.lengths.1.0 in
     let plain = unbody E k ciphertext in
-    let te_is = c.open-te.ensures.block_value ∙ ap (λ (u : List ℕ). let j = masks_of v.edition u in te E j (unbody E j ciphertext)) with.u_value in
+    let te_is = c.open-te.ensures.block_value
+    ∙ ap (λ (u : List ℕ). te E (masks_of v.edition u) (unbody E (masks_of v.edition u) ciphertext)) with.u_value in
     let message_is : c.open-te.new.out ≡ lay 0 plain out =
     c.open-te.ensures.out_after ∙ ap (λ (u : List ℕ). lay 0 (unbody E (masks_of v.edition u) ciphertext) out) with.u_value in
-    let is = opened_by E k (added E v.q v.edition v.n.now v.a.now v.t) v.t s _ _ _ _ te_is with.added_value c.xor-x.ensures c.equal-matches.ensures in
-    let shown_is : (b : Bool) → c.equal-matches.result ≡ b → shown (answer b plain) n out ≡ shown (found_from E v.q v.edition v.n.now v.a.now v.t s) n out =
+    let a = added E v.q v.edition v.n.now v.a.now v.t in
+    let is = opened_by E k a v.t s _ _ _ _ te_is with.added_value c.xor-x.ensures c.equal-matches.ensures in
+    let shown_is : (b : Bool) → c.equal-matches.result ≡ b → shown (answer b plain) n out ≡ shown (opened E k a v.t s) n out =
     λ b h. ap (λ (o : Opened). shown o n out) (ap (λ (b : Bool). answer b plain) (sym h) ∙ sym is) in
     record {
       matches_value = sym (ap flag is ∙ flag_by c.equal-matches.result plain);
@@ -62,6 +64,7 @@ returns c =
             | else-not-matches w ↦ w.out-is ∙ message_is ∙ shown_is _ w.if-not-matches.false
           ];
       runs_value =
-          ap₂ ◌+◌ with.runs_value (c.open-te.ensures.runs_value ∙ ap (λ (u : List ℕ). length (undone_inputs E (masks_of v.edition u) ciphertext)) with.u_value)
+          ap₂ ◌+◌ with.runs_value
+          (c.open-te.ensures.runs_value ∙ ap (λ (u : List ℕ). length (undone_inputs E (masks_of v.edition u) ciphertext)) with.u_value)
           ∙ sym (length-append (call_inputs E v.q v.edition v.n.now v.a.now v.t) (undone_inputs E k ciphertext));
     }
