@@ -37,9 +37,9 @@ pub fn seal(
     ensures runs_value { result ≡ length (from_inputs (cipher_under e.now) q edition n.now a.now t m.now) }
 {
     let with = associated::seals_with(edition, e, q, n, a, t);
-    let te = message::seal(edition, e, with.value.u, m, out);
-    ends::put_tag(te.value, with.value.added, t, m.len(), out);
-    with.runs + te.runs
+    let Ran { value: te, runs } = message::seal(edition, e, with.value.u, m, out);
+    ends::put_tag(te, with.value.added, t, m.len(), out);
+    with.runs + runs
 }
 
 // Opens s, whose last t bytes are the tag, into out, and says whether the tag matches. Where it does not, the message is cleared.
@@ -61,14 +61,14 @@ pub fn open(
 {
     let b = s.len() - t;
     let with = associated::seals_with(edition, e, q, n, a, t);
-    let te = message::open(edition, e, with.value.u, &s[..b], out);
-    let x = te.value.xor(with.value.added);
+    let Ran { value: te, runs } = message::open(edition, e, with.value.u, &s[..b], out);
+    let x = te.xor(with.value.added);
     let matches = lists::equal(&x[..t], &s[b..]);
     if !matches {
         lists::clear(out, b);
     }
     Ran {
         value: matches,
-        runs: with.runs + te.runs,
+        runs: with.runs + runs,
     }
 }

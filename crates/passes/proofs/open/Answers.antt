@@ -43,10 +43,10 @@ returns c =
     let long = length-ta v.e.now.rounds v.e.now.words v.q v.edition v.a.now in
     let are_masks = otr-masks E e v.q v.edition v.n.now v.a.now v.t long c.requires.lengths.1.0 in
     let plain = unbody E k ciphertext in
-    let te_is = c.open-te.ensures.block_value
+    let te_is = c.open-runs.ensures.block_value
     ∙ ap (λ (u : List ℕ). te E (masks_of v.edition u) (unbody E (masks_of v.edition u) ciphertext)) with.u_value in
-    let message_is : c.open-te.new.out ≡ lay 0 plain out =
-    c.open-te.ensures.out_after ∙ ap (λ (u : List ℕ). lay 0 (unbody E (masks_of v.edition u) ciphertext) out) with.u_value in
+    let message_is : c.open-runs.new.out ≡ lay 0 plain out =
+    c.open-runs.ensures.out_after ∙ ap (λ (u : List ℕ). lay 0 (unbody E (masks_of v.edition u) ciphertext) out) with.u_value in
     let a = added E v.q v.edition v.n.now v.a.now v.t in
     let is = opened_by E k a v.t s _ _ _ _ te_is with.added_value c.xor-x.ensures c.equal-matches.ensures in
     let shown_is : (b : Bool) → c.equal-matches.result ≡ b → shown (answer b plain) n out ≡ shown (opened E k a v.t s) n out =
@@ -65,6 +65,6 @@ returns c =
           ];
       runs_value =
           ap₂ ◌+◌ with.runs_value
-          (c.open-te.ensures.runs_value ∙ ap (λ (u : List ℕ). length (undone_inputs E (masks_of v.edition u) ciphertext)) with.u_value)
+          (c.open-runs.ensures.runs_value ∙ ap (λ (u : List ℕ). length (undone_inputs E (masks_of v.edition u) ciphertext)) with.u_value)
           ∙ sym (length-append (call_inputs E v.q v.edition v.n.now v.a.now v.t) (undone_inputs E k ciphertext));
     }

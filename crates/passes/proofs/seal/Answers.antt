@@ -31,8 +31,8 @@ returns-clause-out_after c =
     let s = otr-masks E e v.q v.edition v.n.now v.a.now v.t long c.requires.lengths.1.0 in
     let a = added E v.q v.edition v.n.now v.a.now v.t in
     let a_long = length-added E e v.q v.edition v.n.now v.a.now v.t long in
-    let te_is = c.seal-te.ensures.block_value ∙ ap (λ (u : List ℕ). te E (masks_of v.edition u) m) with.u_value in
-    let body_is = c.seal-te.ensures.out_after ∙ ap (λ (u : List ℕ). lay 0 (body E (masks_of v.edition u) m) v.out.now) with.u_value in
+    let te_is = c.seal-runs.ensures.block_value ∙ ap (λ (u : List ℕ). te E (masks_of v.edition u) m) with.u_value in
+    let body_is = c.seal-runs.ensures.out_after ∙ ap (λ (u : List ℕ). lay 0 (body E (masks_of v.edition u) m) v.out.now) with.u_value in
     c.put_tag.ensures
     ∙ ap₂ (λ (x b : List ℕ). lay (length m) (take v.t x) b) (ap₂ xor te_is with.added_value) body_is
     ∙ tagged E e (masks E v.q v.edition v.n.now v.a.now v.t) s a a_long v.t c.requires.lengths.1.1 m v.out.now c.requires.room
