@@ -43,6 +43,7 @@ module _ (m : List ℕ) (i : ℕ) where
       → take (length m - (i + 16)) x ≡ xor (drop 16 (drop i m)) e
   second_masked b z x e hb hz hx = rest_masked m (i + 16) b z x e hb hz hx ∙ ap (λ (l : List ℕ). xor l e) (sym (drop-drop 16 i m))
 
-  pub second_filled : (b : List ℕ) → b ≡ filled (take (length m - (i + 16)) (drop (i + 16) m)) → take (length m - (i + 16)) b ≡ drop 16 (drop i m)
+  pub second_filled : (b : List ℕ) → b ≡ filled (take (length m - (i + 16)) (drop (i + 16) m))
+      → take (length m - (i + 16)) b ≡ drop 16 (drop i m)
   second_filled b hb =
       ap (take (length m - (i + 16))) (hb ∙ ap filled second_whole) ∙ part_filled (drop 16 (drop i m)) (length m - (i + 16)) second_long

@@ -82,31 +82,32 @@ module _ (E : List ℕ → List ℕ) (l a r b m out : List ℕ) where
     right_is = is_right ∙ h.right_is ∙ ap (steps r b) (sym hn);
   }
 
-  -- one pair more, whose blocks are at places p and q
-  pub one_more : IsCipher E → AreMasks (carried l a r b) → (i n p q : ℕ) (now left right next next_left next_right : List ℕ)
-      → Laid E l a r b m out i now left right → n ≡ i + 1 → p ≡ 32 * i → q ≡ 32 * i + 16
-      → 32 * n ≤ length m → 32 * n ≤ length out → next ≡ lay p (pair E left right (block m p) (block m q)) now
-      → next_left ≡ xor (double left) a → next_right ≡ xor (double right) b → Laid E l a r b m out n next next_left next_right
-  one_more e s i n p q now left right next next_left next_right h hn hp hq hm ho is is_left is_right = record {
-    laid =
-        is
-        ∙ laid_more E e (carried l a r b) s m out i p q left right now hp hq (omega arith) (omega arith) h.left_is h.right_is h.laid
-        ∙ ap (λ (j : ℕ). lay 0 (pairs E (carried l a r b) j m) out) (sym hn);
-    left_is = is_left ∙ ap (λ (x : List ℕ). xor (double x) a) h.left_is ∙ step_more l a i ∙ ap (steps l a) (sym hn);
-    right_is = is_right ∙ ap (λ (x : List ℕ). xor (double x) b) h.right_is ∙ step_more r b i ∙ ap (steps r b) (sym hn);
-  }
+  module _ (e : IsCipher E) (s : AreMasks (carried l a r b)) where
+    -- one pair more, whose blocks are at places p and q
+    pub one_more : (i n p q : ℕ) (now left right next next_left next_right : List ℕ) → Laid E l a r b m out i now left right
+        → n ≡ i + 1 → p ≡ 32 * i → q ≡ 32 * i + 16 → 32 * n ≤ length m → 32 * n ≤ length out
+        → next ≡ lay p (pair E left right (block m p) (block m q)) now
+        → next_left ≡ xor (double left) a → next_right ≡ xor (double right) b → Laid E l a r b m out n next next_left next_right
+    one_more i n p q now left right next next_left next_right h hn hp hq hm ho is is_left is_right = record {
+      laid =
+          is
+          ∙ laid_more E e (carried l a r b) s m out i p q left right now hp hq (omega arith) (omega arith) h.left_is h.right_is h.laid
+          ∙ ap (λ (j : ℕ). lay 0 (pairs E (carried l a r b) j m) out) (sym hn);
+      left_is = is_left ∙ ap (λ (x : List ℕ). xor (double x) a) h.left_is ∙ step_more l a i ∙ ap (steps l a) (sym hn);
+      right_is = is_right ∙ ap (λ (x : List ℕ). xor (double x) b) h.right_is ∙ step_more r b i ∙ ap (steps r b) (sym hn);
+    }
 
-  -- two pairs more, the second with the masks mid_left and mid_right
-  pub two_more : IsCipher E → AreMasks (carried l a r b) → (i n p : ℕ) (now left right mid_left mid_right next next_left next_right : List ℕ)
-      → Laid E l a r b m out i now left right → n ≡ i + 2 → p ≡ 32 * i → 32 * n ≤ length m → 32 * n ≤ length out
-      → next
-      ≡ lay (p + 32) (pair E mid_left mid_right (block m (p + 32)) (block m (p + 48))) (lay p (pair E left right (block m p) (block m (p + 16))) now)
-      → mid_left ≡ xor (double left) a → mid_right ≡ xor (double right) b
-      → next_left ≡ xor (double mid_left) a → next_right ≡ xor (double mid_right) b → Laid E l a r b m out n next next_left next_right
-  two_more e s i n p now left right mid_left mid_right next next_left next_right h hn hp hm ho is mid_is_left mid_is_right is_left is_right =
-      let one = one_more e s i (i + 1) p (p + 16) now left right (lay p (pair E left right (block m p) (block m (p + 16))) now) mid_left mid_right
-      h refl hp (omega arith) (omega arith) (omega arith) refl mid_is_left mid_is_right in
-      one_more e s (i + 1) n (p + 32) (p + 48) _ mid_left mid_right next next_left next_right one (omega arith) (omega arith) (omega arith) hm ho is is_left is_right
+    -- two pairs more from place p on, the second with the masks y and z
+    pub two_more : (i n p : ℕ) (now left right y z next next_left next_right : List ℕ) → Laid E l a r b m out i now left right
+        → n ≡ i + 2 → p ≡ 32 * i → 32 * n ≤ length m → 32 * n ≤ length out
+        → next ≡ lay (p + 32) (pair E y z (block m (p + 32)) (block m (p + 48))) (lay p (pair E left right (block m p) (block m (p + 16))) now)
+        → y ≡ xor (double left) a → z ≡ xor (double right) b
+        → next_left ≡ xor (double y) a → next_right ≡ xor (double z) b → Laid E l a r b m out n next next_left next_right
+    two_more i n p now left right y z next next_left next_right h hn hp hm ho is y_is z_is is_left is_right =
+        let first = lay p (pair E left right (block m p) (block m (p + 16))) now in
+        let one = one_more i (i + 1) p (p + 16) now left right first y z h refl hp (omega arith) (omega arith) (omega arith) refl y_is z_is in
+        one_more (i + 1) n (p + 32) (p + 48) first y z next next_left next_right one (omega arith) (omega arith) (omega arith) hm ho
+        is is_left is_right
 
   -- the same said of any masks k that are carried so
   pub laid_with : (n : ℕ) (now left right : List ℕ) → Laid E l a r b m out n now left right → (k : Masks) → Carries k l a r b

@@ -11,7 +11,8 @@ use Rattle.lists.specs.Lay.{lay}
 use Rattle.lists.specs.Xor.{xor}
 use Rattle.lists.proofs.Laid.{lay-lay}
 use Rattle.mode.specs.Masks.{Masks, IsCipher, AreMasks}
-use Rattle.mode.specs.Message.{pairs_of, even, rest, last_length, sum, base, final, pairs, pairs_inputs, ending, ending_inputs, end_sum, l, r, body, te}
+use Rattle.mode.specs.Message.{pairs_of, even, rest, last_length, sum, base, final, pairs, ending, end_sum, l, r, body, te}
+use Rattle.mode.specs.Message.{pairs_inputs, ending_inputs}
 use Rattle.mode.specs.Undoing.{swapped, unending, unending_inputs, undone_sum, unbody}
 use Rattle.mode.proofs.Counts.{pairs_are, pairs-within, even_is, even_left}
 use Rattle.mode.proofs.Pairs.{swapped_masks, length_pairs}
@@ -34,13 +35,17 @@ module _ (m : List ℕ) (n : ℕ) (hn : n ≡ pairs_of (length m)) where
   all_runs p e t hp he ht = omega (arith, hn, hp, he, ht, length-drop (32 * n) m, pairs_are (length m))
 
   module _ (E : List ℕ → List ℕ) (k : Masks) (L R : List ℕ) (p e t : ℕ) (hp : p ≡ length (pairs_inputs E k n m)) (ht : t ≡ 1) where
-    pub sealed_runs : e ≡ length (ending_inputs E (ltb (32 * n + 16) (length m)) L R (drop (32 * n) m)) → p + e + t ≡ (length m + 15) / 16 + 1
+    pub sealed_runs : e ≡ length (ending_inputs E (ltb (32 * n + 16) (length m)) L R (drop (32 * n) m))
+        → p + e + t ≡ (length m + 15) / 16 + 1
     sealed_runs he =
-        all_runs p e t (hp ∙ length-pairs_inputs E k n m) (he ∙ length-ending_inputs E (ltb (32 * n + 16) (length m)) L R (drop (32 * n) m) remains_behind) ht
+        all_runs p e t (hp ∙ length-pairs_inputs E k n m)
+        (he ∙ length-ending_inputs E (ltb (32 * n + 16) (length m)) L R (drop (32 * n) m) remains_behind) ht
 
-    pub undone_runs : e ≡ length (unending_inputs E (ltb (32 * n + 16) (length m)) L R (drop (32 * n) m)) → p + e + t ≡ (length m + 15) / 16 + 1
+    pub undone_runs : e ≡ length (unending_inputs E (ltb (32 * n + 16) (length m)) L R (drop (32 * n) m))
+        → p + e + t ≡ (length m + 15) / 16 + 1
     undone_runs he =
-        all_runs p e t (hp ∙ length-pairs_inputs E k n m) (he ∙ length-unending_inputs E (ltb (32 * n + 16) (length m)) L R (drop (32 * n) m) remains_behind) ht
+        all_runs p e t (hp ∙ length-pairs_inputs E k n m)
+        (he ∙ length-unending_inputs E (ltb (32 * n + 16) (length m)) L R (drop (32 * n) m) remains_behind) ht
 
 -- ---- what is written
 -- an end laid directly behind the pairs
@@ -95,7 +100,8 @@ module _ (E : List ℕ → List ℕ) (e : IsCipher E) (k : Masks) (s : AreMasks 
       is
       ∙ ap (lay (32 * n) (ending E (ltb (32 * n + 16) (length m)) L R (drop (32 * n) m))) held
       ∙ all_laid (ending E) k s
-      (length-ending E e (l E k m) (r E k m) (s.left (pairs_of (length m))) (s.right (pairs_of (length m))) (even (length m)) (rest m) (remains m))
+      (length-ending E e (l E k m) (r E k m) (s.left (pairs_of (length m))) (s.right (pairs_of (length m)))
+      (even (length m)) (rest m) (remains m))
       ∙ ap (λ (x : List ℕ). lay 0 x out) (sym (body_parts E k (even (length m)) m refl))
 
   pub undone_laid : (now next : List ℕ) → now ≡ lay 0 (pairs E (swapped k) n m) out
@@ -105,38 +111,40 @@ module _ (E : List ℕ → List ℕ) (e : IsCipher E) (k : Masks) (s : AreMasks 
       is
       ∙ ap (lay (32 * n) (unending E (ltb (32 * n + 16) (length m)) L R (drop (32 * n) m))) held
       ∙ all_laid (unending E) (swapped k) (swapped_masks s)
-      (length-unending E e (l E k m) (r E k m) (s.left (pairs_of (length m))) (s.right (pairs_of (length m))) (even (length m)) (rest m) (remains m))
+      (length-unending E e (l E k m) (r E k m) (s.left (pairs_of (length m))) (s.right (pairs_of (length m)))
+      (even (length m)) (rest m) (remains m))
       ∙ ap (λ (x : List ℕ). lay 0 x out) (sym (unbody_parts E e k s (even (length m)) m refl))
 
-  -- TE of a sum S and an end X
-  mask : List ℕ
+  -- the final mask, and TE of a sum S and an end X
+  abbrev mask : List ℕ
   mask = final k (ltb (last_length (ltb 16 (length m - 32 * n)) (length m - 32 * n)) 16) (base (ltb 16 (length m - 32 * n)) L R)
 
   te_with : (S X : List ℕ) → E (xor mask (xor S X)) ≡ te_of E k (even (length m)) (length (rest m)) (pairs_of (length m)) S X
-  unfolding mask
   te_with S X =
       ap₂ (λ (t : Bool) (d : ℕ). E (xor (final k (ltb (last_length t d) 16) (base t L R)) (xor S X))) two_left left
-      ∙ ap₂ (λ (a b : List ℕ). E (xor (final k (ltb (last_length (even (length m)) (length (rest m))) 16) (base (even (length m)) a b)) (xor S X))) hl hr
+      ∙ ap₂
+      (λ (a b : List ℕ). E (xor (final k (ltb (last_length (even (length m)) (length (rest m))) 16) (base (even (length m)) a b)) (xor S X)))
+      hl hr
 
   pub te-sealed : (S X x T : List ℕ) → S ≡ sum n m → X ≡ end_sum E (ltb (32 * n + 16) (length m)) L (drop (32 * n) m)
       → x ≡ xor S X
-      → T ≡ E (xor (final k (ltb (last_length (ltb 16 (length m - 32 * n)) (length m - 32 * n)) 16) (base (ltb 16 (length m - 32 * n)) L R)) x)
+      → T ≡ E (xor mask x)
       → T ≡ te E k m
-  unfolding mask
   te-sealed S X x T h_s h_x hx is =
       is
       ∙ ap (λ (y : List ℕ). E (xor mask y)) hx
       ∙ te_with S X
       ∙ ap₂ (te_of E k (even (length m)) (length (rest m)) (pairs_of (length m))) (h_s ∙ ap (λ (i : ℕ). sum i m) hn)
-      (h_x ∙ ap₂ (λ (t : Bool) (a : List ℕ). end_sum E t a (drop (32 * n) m)) two hl ∙ ap (λ (i : ℕ). end_sum E (even (length m)) (l E k m) (drop (32 * i) m)) hn)
+      (h_x
+      ∙ ap₂ (λ (t : Bool) (a : List ℕ). end_sum E t a (drop (32 * n) m)) two hl
+      ∙ ap (λ (i : ℕ). end_sum E (even (length m)) (l E k m) (drop (32 * i) m)) hn)
       ∙ sym (te_parts E k (even (length m)) m refl)
 
   pub te-opened : (S X x T : List ℕ) → S ≡ sum n (lay 0 (pairs E (swapped k) n m) out)
       → X ≡ undone_sum E (ltb (32 * n + 16) (length m)) L R (drop (32 * n) m)
       → x ≡ xor S X
-      → T ≡ E (xor (final k (ltb (last_length (ltb 16 (length m - 32 * n)) (length m - 32 * n)) 16) (base (ltb 16 (length m - 32 * n)) L R)) x)
+      → T ≡ E (xor mask x)
       → T ≡ te E k (unbody E k m)
-  unfolding mask
   te-opened S X x T h_s h_x hx is =
       is
       ∙ ap (λ (y : List ℕ). E (xor mask y)) hx
@@ -144,7 +152,8 @@ module _ (E : List ℕ → List ℕ) (e : IsCipher E) (k : Masks) (s : AreMasks 
       ∙ ap₂ (te_of E k (even (length m)) (length (rest m)) (pairs_of (length m)))
       (h_s
       ∙ ap (λ (i : ℕ). sum i (lay 0 (pairs E (swapped k) i m) out)) hn
-      ∙ sum_front (pairs_of (length m)) (pairs E (swapped k) (pairs_of (length m)) m) (drop (0 + length (pairs E (swapped k) (pairs_of (length m)) m)) out)
+      ∙ sum_front (pairs_of (length m)) (pairs E (swapped k) (pairs_of (length m)) m)
+      (drop (0 + length (pairs E (swapped k) (pairs_of (length m)) m)) out)
       (omega (arith, length_pairs E e (swapped k) (swapped_masks s) (pairs_of (length m)) m (pairs-within (length m)))))
       (h_x
       ∙ ap (λ (t : Bool). undone_sum E t L R (drop (32 * n) m)) two

@@ -15,7 +15,8 @@ returns c =
     let E = cipher_under v.e.now in
     let x = drop v.at v.c.now in
     let padded_is = c.pad-padded.ensures ∙ ap pad (second_filled v.c.now v.at _ c.read-last.ensures) in
-    let first_is : c.half-runs.result.value ≡ first E v.k.right x = c.half-runs.ensures.block_value ∙ ap₂ (half E v.k.right) padded_is c.read_block.ensures in
+    let first_is : c.half-runs.result.value ≡ first E v.k.right x =
+    c.half-runs.ensures.block_value ∙ ap₂ (half E v.k.right) padded_is c.read_block.ensures in
     let z_is = c.encrypt-z.ensures ∙ ap E (c.xor.ensures ∙ ap (xor v.k.left) first_is) in
     let last_is = second_masked v.c.now v.at _ _ _ _ c.read-last.ensures z_is c.xor-2.ensures in
     record {

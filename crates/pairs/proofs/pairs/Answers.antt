@@ -19,8 +19,8 @@ loop-i-preserved c =
     let four : c.two_pairs-two.result ≡ 4 = c.two_pairs-two.ensures.runs_value in
     record {
       pairs =
-          two_more _ _ _ _ _ _ _ e s (2 * i) (2 * (i + 1)) (64 * i) _ _ _ _ _ _ _ _ c.loop-i.invariant.pairs (omega arith) (omega arith) (omega arith) (omega arith)
-          c.two_pairs-two.ensures.out_after (cc) (cc) (cc) (cc);
+          two_more _ _ _ _ _ _ _ e s (2 * i) (2 * (i + 1)) (64 * i) _ _ _ _ _ _ _ _ c.loop-i.invariant.pairs
+          (omega arith) (omega arith) (omega arith) (omega arith) c.two_pairs-two.ensures.out_after (cc) (cc) (cc) (cc);
       runs = omega arith;
     }
 
@@ -32,7 +32,8 @@ returns c =
     let E = cipher_under v.e.now in
     let e = is_cipher v.e.now.rounds v.e.now.words in
     let s = carried_masks v.first.left v.step.left v.first.right v.step.right (search rules) (search rules) (search rules) (search rules) in
-    let all : Laid E v.first.left v.step.left v.first.right v.step.right v.src.now v.out.now v.n now.out c.to_bytes.result.left c.to_bytes.result.right =
+    let all : Laid E v.first.left v.step.left v.first.right v.step.right v.src.now v.out.now v.n now.out
+    c.to_bytes.result.left c.to_bytes.result.right =
     elim now.branch [
       | then-n-eq1 w ↦ one_more _ _ _ _ _ _ _ e s (2 * i) v.n (32 * (v.n - 1)) (32 * (v.n - 1) + 16) _ _ _ _ _ _ c.loop-i.invariant.pairs
           (omega arith) (omega arith) (omega arith) (omega arith) (omega arith) (cc) (cc) (cc)

@@ -11,4 +11,6 @@ returns c =
     let part = take v.n v.b in
     let long : length v.a ≡ 16 = search rules in
     let place : v.at + 16 ≡ v.at + length v.a = omega arith in
-    c.lay-2.ensures ∙ ap₂ (λ i l. lay i part l) place c.lay.ensures ∙ lay-lay v.at v.a part v.out.now (omega (arith, length-take-le v.n v.b))
+    c.lay-2.ensures
+    ∙ ap₂ (λ i l. lay i part l) place c.lay.ensures
+    ∙ lay-lay v.at v.a part v.out.now (omega (arith, length-take-le v.n v.b))

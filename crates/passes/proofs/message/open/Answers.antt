@@ -13,14 +13,14 @@ use Rattle.passes.proofs.message.open.Goals as goal
 
 pub overflow_add-result : goal.overflow_add-result
 overflow_add-result c =
-    let runs = undone_runs c.args.c.now _ c.pairs_of-n.ensures _ (masks_of c.args.edition c.args.u) _ _ _ _ _ (c.pairs-front.ensures.runs_value _) c.te-runs.ensures.runs_value
-    c.open_rest-rest.ensures.runs_value in
+    let front = c.pairs-front.ensures.runs_value (masks_of c.args.edition c.args.u) in
+    let runs = undone_runs c.args.c.now _ c.pairs_of-n.ensures _ _ _ _ _ _ _ front c.te-runs.ensures.runs_value c.open_rest-rest.ensures.runs_value in
     record { fits = omega arith }
 
 pub overflow_add-result-2 : goal.overflow_add-result-2
 overflow_add-result-2 c =
-    let runs = undone_runs c.args.c.now _ c.pairs_of-n.ensures _ (masks_of c.args.edition c.args.u) _ _ _ _ _ (c.pairs-front.ensures.runs_value _) c.te-runs.ensures.runs_value
-    c.open_rest-rest.ensures.runs_value in
+    let front = c.pairs-front.ensures.runs_value (masks_of c.args.edition c.args.u) in
+    let runs = undone_runs c.args.c.now _ c.pairs_of-n.ensures _ _ _ _ _ _ _ front c.te-runs.ensures.runs_value c.open_rest-rest.ensures.runs_value in
     record { fits = omega arith }
 
 pub returns : goal.returns
@@ -34,8 +34,10 @@ returns c =
     let k = masks_of v.edition v.u in
     let s = edition_masks v.edition v.u (search rules) in
     let carries = c.start_of-start.ensures in
+    let first = c.swapped.ensures in
+    let step = c.swapped-2.ensures in
     let exchanged : Carries (swapped k) c.swapped.result.left c.swapped-2.result.left c.swapped.result.right c.swapped-2.result.right =
-    rw (c.swapped.ensures.left_value, c.swapped.ensures.right_value, c.swapped-2.ensures.left_value, c.swapped-2.ensures.right_value) (carries.1, carries.0) in
+    rw (first.left_value, first.right_value, step.left_value, step.right_value) (carries.1, carries.0) in
     let laid = c.pairs-front.ensures.out_after (swapped k) exchanged in
     let masks = c.pairs-front.ensures.masks_after (swapped k) exchanged in
     let left_is : c.swapped-k.result.left ≡ k.left n = c.swapped-k.ensures.left_value ∙ masks.1 in
@@ -44,8 +46,9 @@ returns c =
     record {
       out_after = undone_laid E e k s m v.out.now n _ _ hn left_is right_is c.requires.room _ _ laid rest.out_after;
       block_value =
-          te-opened E e k s m v.out.now n _ _ hn left_is right_is c.requires.room _ _ _ _ (c.sum-s.ensures ∙ ap (sum n) laid) rest.block_value c.xor.ensures
-          c.te-runs.ensures.block_value;
+          te-opened E e k s m v.out.now n _ _ hn left_is right_is c.requires.room _ _ _ _
+          (c.sum-s.ensures ∙ ap (sum n) laid) rest.block_value c.xor.ensures c.te-runs.ensures.block_value;
       runs_value =
-          undone_runs m n hn E k _ _ _ _ _ (c.pairs-front.ensures.runs_value k) c.te-runs.ensures.runs_value rest.runs_value ∙ sym (length-undone_inputs E k m);
+          undone_runs m n hn E k _ _ _ _ _ (c.pairs-front.ensures.runs_value k) c.te-runs.ensures.runs_value rest.runs_value
+          ∙ sym (length-undone_inputs E k m);
     }

@@ -26,8 +26,13 @@ returns c =
     let right_is : v.k.right ≡ k.right n = c.requires.masks_there.1 ∙ sym (ap k.right hn) in
     let runs = sealed_runs m n hn E k _ _ _ _ _ refl te.runs_value rest.runs_value in
     record {
-      out_after = λ o held fits. sealed_laid E e k s m o n _ _ hn left_is right_is fits _ _ (held ∙ ap (λ i. lay 0 (pairs E k i m) o) (sym hn)) rest.out_after;
+      out_after = λ o held fits.
+          sealed_laid E e k s m o n _ _ hn left_is right_is fits _ _ (held ∙ ap (λ i. lay 0 (pairs E k i m) o) (sym hn)) rest.out_after;
       block_value =
-          te-sealed E e k s m v.out.now n _ _ hn left_is right_is c.requires.room _ _ _ _ c.sum-s.ensures rest.block_value c.xor.ensures te.block_value;
-      runs_value = ap (λ (i : ℕ). length (pairs_inputs E k i m) + (c.seal_rest-rest.result.runs + c.te-runs.result.runs)) (sym hn) ∙ omega (arith, runs) ∙ sym (length-sealed_inputs E k m);
+          te-sealed E e k s m v.out.now n _ _ hn left_is right_is c.requires.room _ _ _ _
+          c.sum-s.ensures rest.block_value c.xor.ensures te.block_value;
+      runs_value =
+          ap (λ (i : ℕ). length (pairs_inputs E k i m) + (c.seal_rest-rest.result.runs + c.te-runs.result.runs)) (sym hn)
+          ∙ omega (arith, runs)
+          ∙ sym (length-sealed_inputs E k m);
     }

@@ -18,7 +18,8 @@ bytes-doubles zero x h = h
 bytes-doubles (suc i) x h = bytes-double (doubles i x) (bytes-doubles i x h)
 
 -- v1: 4δ is doubled, and in L' 3δ makes good that δ was doubled with it
-first-carries : (d : List ℕ) → length d ≡ 16 → Bytes d → Carries (first d) (double (double d)) (zeros 16) (xor (double (double d)) d) (triple d)
+first-carries : (d : List ℕ) → length d ≡ 16 → Bytes d
+    → Carries (first d) (double (double d)) (zeros 16) (xor (double (double d)) d) (triple d)
 unfolding doubles
 first-carries d long byte = (doubles_steps four four-long, (refl, λ i. sym (step i)))
   where
@@ -31,9 +32,11 @@ first-carries d long byte = (doubles_steps four four-long, (refl, λ i. sym (ste
     step : (i : ℕ) → xor (double (xor (doubles i four) d)) (triple d) ≡ xor (double (doubles i four)) d
     step i =
         let x = doubles i four in
-        ap (λ (y : List ℕ). xor y (triple d)) (double-xor x d (length-doubles i four four-long) long (bytes-doubles i four (bytes-double (double d) (bytes-double d byte))) byte)
+        let x_long = length-doubles i four four-long in
+        let x_bytes = bytes-doubles i four (bytes-double (double d) (bytes-double d byte)) in
+        ap (λ (y : List ℕ). xor y (triple d)) (double-xor x d x_long long x_bytes byte)
         ∙ sym (xor_assoc (xor (double x) (double d)) (double d) d)
-        ∙ ap (λ (y : List ℕ). xor y d) (xor_cancel (double x) (double d) (omega (arith, length-double d long, length-double x (length-doubles i four four-long))))
+        ∙ ap (λ (y : List ℕ). xor y d) (xor_cancel (double x) (double d) (omega (arith, length-double d long, length-double x x_long)))
 
 -- v3.1: U and 3U are doubled as they are
 third-carries : (u : List ℕ) → length u ≡ 16 → Carries (third u) u (zeros 16) (triple u) (zeros 16)
@@ -44,9 +47,11 @@ returns-in-V1 c =
     let u = c.args.u in
     let bytes : Bytes u = λ i. let byte : Fits w8 (get_or u i 0) = search rules in byte.fits in
     let start = c.new.ensures in
-    rw (c.in-V1.is, start.first_value.0, start.first_value.1, start.step_value.0, start.step_value.1, c.xor.ensures, c.double-four.ensures, c.double-two.ensures, c.triple-three.ensures) (first-carries u (search rules) bytes)
+    rw (c.in-V1.is, start.first_value.0, start.first_value.1, start.step_value.0, start.step_value.1)
+    (rw (c.xor.ensures, c.double-four.ensures, c.double-two.ensures, c.triple-three.ensures) (first-carries u (search rules) bytes))
 
 pub returns-in-V3 : goal.returns-in-V3
 returns-in-V3 c =
     let start = c.new-in-V3.ensures in
-    rw (c.in-V3.is, start.first_value.0, start.first_value.1, start.step_value.0, start.step_value.1, c.triple-three.ensures, c.zeros.ensures) (third-carries c.args.u (search rules))
+    rw (c.in-V3.is, start.first_value.0, start.first_value.1, start.step_value.0, start.step_value.1)
+    (rw (c.triple-three.ensures, c.zeros.ensures) (third-carries c.args.u (search rules)))
