@@ -12,15 +12,12 @@ use Rattle.lists.specs.Xor.{xor}
 use Rattle.lists.specs.Zeros.{zeros}
 use Rattle.lists.proofs.Xor.{take-xor}
 use Rattle.lists.proofs.Zeros.{length-zeros}
-use Rattle.lists.proofs.Laid.{length-lay, lay_whole}
+use Rattle.lists.proofs.Laid.{length-lay}
 use Rattle.block.specs.Block.{filled, pad, padded}
 
 -- ---- a part block, with zeros behind
 pub length-filled : (x : List ℕ) → length x ≤ 16 → length (filled x) ≡ 16
 length-filled x h = length-lay 0 x (zeros 16) (omega (arith, length-zeros 16)) ∙ length-zeros 16
-
-pub filled_whole : (x : List ℕ) → length x ≡ 16 → filled x ≡ x
-filled_whole x h = lay_whole x (zeros 16) (omega (arith, length-zeros 16))
 
 pub take-filled : (x : List ℕ) → take (length x) (filled x) ≡ x
 take-filled x = take-append_seam x (drop (0 + length x) (zeros 16))

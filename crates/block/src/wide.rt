@@ -5,7 +5,7 @@ ghost use Rattle.block.specs.Block.{shift, double};
 ghost use Rattle.block.specs.Wide.{bytes_of, big_of};
 
 // 2⁶³, the highest bit of a word.
-const TOP: u64 = 9223372036854775808;
+const TOP: u64 = 1 << 63;
 
 pub fn to_words(b: [u8; 16]) -> [u64; 2]
     ensures { bytes_of result ≡ b }
@@ -19,12 +19,10 @@ pub fn to_words(b: [u8; 16]) -> [u64; 2]
 pub fn from_words(x: [u64; 2]) -> [u8; 16]
     ensures { result ≡ bytes_of x }
 {
-    let a = words::unpack_eight(x[0]);
-    let b = words::unpack_eight(x[1]);
-    [
-        a[0], a[1], a[2], a[3], a[4], a[5], a[6], a[7], b[0], b[1], b[2], b[3], b[4], b[5], b[6],
-        b[7],
-    ]
+    let mut b = [0; 16];
+    b[..8].copy_from_slice(&words::unpack_eight(x[0]));
+    b[8..].copy_from_slice(&words::unpack_eight(x[1]));
+    b
 }
 
 pub fn xor_words(a: [u64; 2], b: [u64; 2]) -> [u64; 2]
@@ -34,13 +32,14 @@ pub fn xor_words(a: [u64; 2], b: [u64; 2]) -> [u64; 2]
 }
 
 // Each word with its bytes in the opposite order.
+#[tactic(auto, unfolding(crate::specs::Wide::bytes_of, crate::specs::Wide::big_of))]
 pub fn turn_words(x: [u64; 2]) -> [u64; 2]
     ensures { (big_of result ≡ bytes_of x) × (bytes_of result ≡ big_of x) }
 {
     [words::turned(x[0]), words::turned(x[1])]
 }
 
-// On words whose first byte is the highest: the block shifted, and source document 000, formula (1).
+// The block shifted, and source document 000, formula (1): on words whose first byte is the highest, or by way of them.
 pub fn shift_big(x: [u64; 2]) -> [u64; 2]
     ensures { big_of result ≡ shift (big_of x) }
 {
@@ -54,14 +53,8 @@ pub fn double_big(x: [u64; 2]) -> [u64; 2]
     [s[0], s[1] ^ x[0] / TOP * 0x87]
 }
 
-// Source document 000, formula (1): each word as a number whose first byte is the highest.
 pub fn double_words(x: [u64; 2]) -> [u64; 2]
     ensures { bytes_of result ≡ double (bytes_of x) }
 {
-    let a = words::turned(x[0]);
-    let b = words::turned(x[1]);
-    [
-        words::turned(a % TOP * 2 + b / TOP),
-        words::turned(b % TOP * 2 ^ a / TOP * 0x87),
-    ]
+    turn_words(double_big(turn_words(x)))
 }

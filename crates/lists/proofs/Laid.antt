@@ -6,7 +6,7 @@ use native.Mathlib.Nat.{add-zero, zero-add, add_assoc}
 use native.Mathlib.Omega.{arith}
 use native.Mathlib.Numerals.{add-one}
 use lib.ListN.{length, get_or, take, drop, set, length-append, length-drop, take-append-drop, drop_of_length-le, get_or-append}
-use lib.Seq.{length-take-le, take_at, drop_at, drop-append-add, drop-drop, take-suc, take_all, set_split, get_or-take, get_or-drop, get_or-append-add}
+use lib.Seq.{length-take-le, take_at, drop_at, drop-append-add, drop-drop, take_all, set_split, get_or-take, get_or-drop, get_or-append-add}
 use Rattle.lists.specs.Lay.{lay}
 
 module _ (i : ℕ) (new out : List ℕ) (fits : i + length new ≤ length out) where
@@ -95,24 +95,9 @@ set-lay i a out v h =
     ∙ ap (λ (n : ℕ). take (i + length a) (lay i a out) ++ v ∷ drop n (lay i a out)) (sym (add-one (i + length a)))
     ∙ lay-lay i a (v ∷ []) out (omega arith)
 
--- the next byte of new: the loop's own step
-pub lay_more : (i : ℕ) (new out : List ℕ) (k : ℕ) → k < length new → i + length new ≤ length out
-    → set (lay i (take k new) out) (i + k) (get_or new k 0) ≡ lay i (take (k + 1) new) out
-lay_more i new out k h fits =
-    let long : length (take k new) ≡ k = length-take-le k new (omega arith) in
-    let place : i + k ≡ i + length (take k new) = omega arith in
-    ap (λ (j : ℕ). set (lay i (take k new) out) j (get_or new k 0)) place
-    ∙ set-lay i (take k new) out (get_or new k 0) (omega arith)
-    ∙ ap (λ (l : List ℕ). lay i l out) (sym (take-suc new k 0 h) ∙ ap (λ (j : ℕ). take j new) (sym (add-one k)))
-
--- ---- at the front: new over out, byte by byte
+-- ---- at the front, and over the whole
 pub front_none : (out : List ℕ) → lay 0 [] out ≡ out
 front_none out = lay_none 0 out
-
-pub front_more : (new out : List ℕ) (k : ℕ) → k < length new → length new ≤ length out
-    → set (lay 0 (take k new) out) k (get_or new k 0) ≡ lay 0 (take (k + 1) new) out
-front_more new out k h fits =
-    ap (λ (j : ℕ). set (lay 0 (take k new) out) j (get_or new k 0)) (sym (zero-add k)) ∙ lay_more 0 new out k h (omega arith)
 
 pub lay_whole : (new out : List ℕ) → length out ≤ length new → lay 0 new out ≡ new
 lay_whole new out h =
@@ -121,6 +106,14 @@ lay_whole new out h =
 
 pub front_all : (new out : List ℕ) (k : ℕ) → length new ≤ k → length out ≤ length new → lay 0 (take k new) out ≡ new
 front_all new out k h e = ap (λ (l : List ℕ). lay 0 l out) (take_all k new h) ∙ lay_whole new out e
+
+-- new over as many bytes at the end
+pub lay_end : (p z new : List ℕ) (i : ℕ) → length p ≡ i → length z ≡ length new → lay i new (p ++ z) ≡ p ++ new
+lay_end p z new i h e =
+    let none : drop (length new) z ≡ [] = drop_of_length-le z {i = length new} (omega arith) in
+    ap₂ (λ (a b : List ℕ). a ++ (new ++ b)) (take_at p z i h)
+    (ap (λ (k : ℕ). drop (k + length new) (p ++ z)) (sym h) ∙ drop-append-add p z (length new) ∙ none)
+    ∙ ap (λ (l : List ℕ). p ++ l) (append-nil new)
 
 -- laid into the part from place i to the end, and so into the whole
 pub lay_part : (i : ℕ) (new out : List ℕ) → i ≤ length out

@@ -1,11 +1,10 @@
 -- Zeros: their number, and that adding them changes nothing. Assumes nothing.
 use mathlib.Core.Path.{◌≡◌, refl, ap₂}
-use mathlib.Core.List.{List, [], ◌∷◌, ◌++◌}
+use mathlib.Core.List.{List, [], ◌∷◌}
 use Prim.Native.Nat.{ℕ, zero, suc, ◌≤◌}
 use native.Mathlib.Nat.{le_of_suc-le-suc, not-suc-le-zero}
-use native.Mathlib.Omega.{arith}
-use lib.Bits.{bit_xor, xor_zero_r}
-use lib.ListN.{length, get_or, set, length-replicate}
+use lib.Bits.{xor_zero_r}
+use lib.ListN.{length, length-replicate}
 use Rattle.lists.specs.Xor.{xor}
 use Rattle.lists.specs.Zeros.{zeros}
 
@@ -18,11 +17,3 @@ unfolding xor zeros
 xor-zeros [] n h = refl
 xor-zeros (x ∷ a) zero h = absurd (not-suc-le-zero h)
 xor-zeros (x ∷ a) (suc n) h = ap₂ ◌∷◌ (xor_zero_r x) (xor-zeros a n (le_of_suc-le-suc h))
-
--- a byte added behind n zeros goes into the last of n + 1
-pub xor_last : (a : List ℕ) (n v : ℕ) → length a ≡ suc n → xor a (zeros n ++ (v ∷ [])) ≡ set a n (bit_xor (get_or a n 0) v)
-unfolding xor zeros
-xor_last [] n v h = absurd (omega arith)
-xor_last (x ∷ []) zero v h = refl
-xor_last (x ∷ y ∷ a) zero v h = absurd (omega arith)
-xor_last (x ∷ a) (suc n) v h = ap₂ ◌∷◌ (xor_zero_r x) (xor_last a n v (omega arith))
