@@ -3,7 +3,6 @@ use mathlib.Core.Path.{◌≡◌, refl, sym, ap, ap₂, ◌∙◌}
 use mathlib.Core.Bool.{Bool, true, false}
 use mathlib.Core.List.{List, ◌++◌}
 use Prim.Native.Nat.{ℕ, zero, suc, ◌+◌, ◌-◌, ◌*◌, ◌/◌, ◌%◌, ◌≤◌, ◌<◌}
-use native.Mathlib.Nat.{div-lt_iff_lt-mul, le-div_iff_mul-le}
 use native.Mathlib.Numerals.{add-one}
 use native.Mathlib.Omega.{arith}
 use lib.Dec.{eqb, ltb}
@@ -15,13 +14,6 @@ use Rattle.lists.proofs.Laid.{lay-lay}
 use Rattle.lists.proofs.Four.{four}
 use Rattle.aes.specs.State.{word}
 use Rattle.aes.specs.Expansion.{sub_word, rot_word, rcon, if, temp, next, words}
-
--- the round constants stay within their ten
-pub constant_first : (i nk : ℕ) → 4 ≤ nk → nk ≤ i → 1 ≤ i / nk
-constant_first i nk h l = (le-div_iff_mul-le {k = nk} {x = 1} {y = i} (omega arith)).1 (omega arith)
-
-pub constant_last : (i nk : ℕ) → 4 ≤ nk → i < 11 * nk → i / nk < 11
-constant_last i nk h l = (div-lt_iff_lt-mul {k = nk} {x = i} {y = 11} (omega arith)).1 l
 
 -- ---- four bytes to a word
 length_if : (t : Bool) (a b : List ℕ) → length a ≡ 4 → length b ≡ 4 → length (if t a b) ≡ 4

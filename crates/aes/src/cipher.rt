@@ -5,6 +5,8 @@ ghost use Rattle.aes.specs.Cipher.{last_round, rounds as rounds_of, cipher};
 use crate::state;
 use crate::steps::Steps;
 
+// Rows are shifted before bytes are substituted, which comes to the same, and saves some instructions with the joined tables.
+#[tactic(auto, unfolding(crate::specs::Cipher::last_round))]
 fn last_round<S: Steps>(steps: &S, w: &[u8; 240], n: usize, s: [[u8; 4]; 4]) -> [[u8; 4]; 4]
     requires { n ≤ 14 }
     ensures { result ≡ last_round w.now n s }
@@ -14,6 +16,7 @@ fn last_round<S: Steps>(steps: &S, w: &[u8; 240], n: usize, s: [[u8; 4]; 4]) -> 
     state::add_round_key(w, n, b)
 }
 
+#[tactic(auto, using(crate::proofs::Rounds::rounds_more))]
 fn rounds<S: Steps>(steps: &S, w: &[u8; 240], n: usize, first: [[u8; 4]; 4]) -> [[u8; 4]; 4]
     requires { (S.AT_ONCE ≤ n) × (n ≤ 14) }
     ensures { result ≡ rounds_of w.now n first }
@@ -27,6 +30,7 @@ fn rounds<S: Steps>(steps: &S, w: &[u8; 240], n: usize, first: [[u8; 4]; 4]) -> 
 }
 
 // The cipher of a block under an expanded key of nr rounds.
+#[tactic(auto, unfolding(crate::specs::Cipher::cipher))]
 pub fn encrypt<S: Steps>(steps: &S, w: &[u8; 240], nr: usize, block: [u8; 16]) -> [u8; 16]
     requires round_count { (S.AT_ONCE < nr) × (nr ≤ 14) }
     ensures { result ≡ cipher nr w.now block }

@@ -33,12 +33,15 @@ fn rot_word(a: [u8; 4]) -> [u8; 4]
     [q, r, s, p]
 }
 
+#[tactic(auto, unfolding(lists::specs::Xor::xor))]
 fn xor_word(a: [u8; 4], b: [u8; 4]) -> [u8; 4]
     ensures { result ≡ xor a b }
 {
+    // Written out, and not by `array::from_fn`, whose proof comes close to the limits of the search.
     [a[0] ^ b[0], a[1] ^ b[1], a[2] ^ b[2], a[3] ^ b[3]]
 }
 
+#[tactic(auto, unfolding(crate::specs::Expansion::temp))]
 fn temp(sbox: &Sbox, nk: usize, i: usize, a: [u8; 4]) -> [u8; 4]
     requires key_words { (4 ≤ nk) × ((nk ≤ i) × (i < 11 * nk)) }
     ensures { result ≡ temp_of nk i a }
@@ -55,6 +58,7 @@ fn temp(sbox: &Sbox, nk: usize, i: usize, a: [u8; 4]) -> [u8; 4]
     }
 }
 
+#[tactic(auto, unfolding(crate::specs::Expansion::next))]
 fn next_word(sbox: &Sbox, w: &[u8], nk: usize, i: usize) -> [u8; 4]
     requires key_words { (4 ≤ nk) × ((nk ≤ i) × (i < 11 * nk)) }
     requires i_in_bounds { 4 * i ≤ length w.now }

@@ -1,5 +1,5 @@
 // From a key to its round keys, and the cipher of one block under a key.
-ghost use Rattle.std.specs.Prelude.{◌≡◌, ◌+◌, ◌*◌, ◌≤◌, length};
+ghost use Rattle.std.specs.Prelude.{◌≡◌, ◌+◌, ◌*◌, ◌≤◌, length, IfSome};
 ghost use Rattle.lists.specs.Lay.{lay};
 ghost use Rattle.lists.specs.Zeros.{zeros};
 ghost use Rattle.aes.specs.Expansion.{words as words_of};
@@ -16,6 +16,7 @@ pub struct KeySize {
 }
 
 // A key of any other length is refused.
+#[tactic(auto, unfolding(crate::specs::Key::size_of))]
 pub fn key_size(key_len: usize) -> Option<KeySize>
     ensures { result ≡ size_of key_len }
 {
@@ -36,6 +37,7 @@ pub struct RoundKeys {
 }
 
 // No round keys at all.
+#[tactic(auto, unfolding(lists::specs::Zeros::zeros))]
 pub fn blank() -> [u8; 240]
     ensures { result ≡ zeros 240 }
 {
@@ -55,8 +57,10 @@ fn schedule(sbox: &Sbox, key: &[u8], nk: usize, n: usize) -> [u8; 240]
 }
 
 // The round keys of a key, or none where its length is refused.
+#[tactic(auto, using(crate::proofs::Sizes::sizes), unfolding(crate::specs::Expansion::key_expansion))]
 pub fn expand(sbox: &Sbox, key: &[u8]) -> Option<RoundKeys>
-    ensures { result ≡ expansion_of key.now }
+    ensures value { result ≡ expansion_of key.now }
+    ensures round_count { IfSome result (λ k. (10 ≤ k.rounds) × (k.rounds ≤ 14)) }
 {
     let size = key_size(key.len())?;
     let nk = key.len() / 4;
@@ -68,6 +72,7 @@ pub fn expand(sbox: &Sbox, key: &[u8]) -> Option<RoundKeys>
 }
 
 // A block ciphered under a key, or none where the key is refused.
+#[tactic(auto, using(crate::proofs::Keys::refused, crate::proofs::Keys::accepted), unfolding(crate::specs::Key::ciphered_of))]
 pub fn encrypt_under(key: &[u8], block: [u8; 16]) -> Option<[u8; 16]>
     ensures { result ≡ ciphered_of key.now block }
 {

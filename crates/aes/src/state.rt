@@ -34,18 +34,13 @@ pub fn output(s: [[u8; 4]; 4]) -> [u8; 16]
 pub fn sub_word<S: Substitution>(table: &S, a: [u8; 4]) -> [u8; 4]
     ensures { result ≡ sub_word a }
 {
-    let [p, q, r, s] = a;
-    [
-        table.substitute(p),
-        table.substitute(q),
-        table.substitute(r),
-        table.substitute(s),
-    ]
+    a.map(|b| table.substitute(b))
 }
 
 pub fn sub_bytes<S: Substitution>(table: &S, s: [[u8; 4]; 4]) -> [[u8; 4]; 4]
     ensures { result ≡ sub_bytes s }
 {
+    // Written out, and not by `map`: of columns it says too little for the proof to find what each became.
     let [a, b, c, d] = s;
     [
         sub_word(table, a),
@@ -88,12 +83,9 @@ fn mix_column(a: [u8; 4]) -> [u8; 4]
 pub fn mix_columns(s: [[u8; 4]; 4]) -> [[u8; 4]; 4]
     ensures { result ≡ mix_columns s }
 {
-    [
-        mix_column(s[0]),
-        mix_column(s[1]),
-        mix_column(s[2]),
-        mix_column(s[3]),
-    ]
+    // Written out, as in `sub_bytes`.
+    let [a, b, c, d] = s;
+    [mix_column(a), mix_column(b), mix_column(c), mix_column(d)]
 }
 
 // Word i of the expanded key.
@@ -106,6 +98,7 @@ pub fn key_word(w: &[u8; 240], i: usize) -> u32
 }
 
 // A column and word i of the expanded key.
+#[tactic(auto, using(words::proofs::Words::little_xor), unfolding(lists::specs::Xor::xor))]
 fn add_word(w: &[u8; 240], i: usize, a: [u8; 4]) -> [u8; 4]
     requires { i < 60 }
     ensures { result ≡ column (λ r. bit_xor (get_or a r 0) (get_or w.now (4 * i + r) 0)) }
@@ -114,6 +107,7 @@ fn add_word(w: &[u8; 240], i: usize, a: [u8; 4]) -> [u8; 4]
     words::unpack(own ^ key_word(w, i))
 }
 
+#[tactic(auto, unfolding(crate::specs::Cipher::add_round_key))]
 pub fn add_round_key(w: &[u8; 240], round: usize, s: [[u8; 4]; 4]) -> [[u8; 4]; 4]
     requires { round ≤ 14 }
     ensures { result ≡ add_round_key w.now round s }

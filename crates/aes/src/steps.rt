@@ -24,6 +24,7 @@ impl Steps for Sbox {
 
     const AT_ONCE: usize = 0;
 
+    #[tactic(auto, unfolding(crate::specs::Cipher::round))]
     fn round(&self, w: &[u8; 240], n: usize, s: [[u8; 4]; 4]) -> [[u8; 4]; 4] {
         let a = state::sub_bytes(self, s);
         let b = state::shift_rows(a);
@@ -31,6 +32,7 @@ impl Steps for Sbox {
         state::add_round_key(w, n, c)
     }
 
+    #[tactic(auto, unfolding(crate::specs::Cipher::rounds))]
     fn first_rounds(&self, _w: &[u8; 240], first: [[u8; 4]; 4]) -> [[u8; 4]; 4] {
         first
     }

@@ -45,6 +45,7 @@ impl Sbox {
 }
 
 impl Substitution for Sbox {
+    #[tactic(auto, using(lists::proofs::Table::at), unfolding(crate::specs::Substitution::sbox))]
     fn substitute(&self, b: u8) -> u8 {
         self.table[b as usize]
     }
@@ -52,6 +53,7 @@ impl Substitution for Sbox {
 
 // FIPS 197, 4.2.1, with no branch on the byte: 2 · b, less m(x) where that has an x⁸. The x⁸ is multiplied at its own place, and
 // the product moved down, because the compiler takes a multiplied bit of 0 or 1 for a choice.
+#[tactic(auto, using(crate::proofs::Products::twice_is, crate::proofs::Products::twice_byte))]
 pub fn twice(b: u8) -> u8
     ensures { result ≡ product 2 b }
 {
@@ -60,6 +62,7 @@ pub fn twice(b: u8) -> u8
     (d ^ x8 * 0x11b / 256) as u8
 }
 
+#[tactic(auto, using(crate::proofs::Products::thrice_is))]
 pub fn thrice(b: u8) -> u8
     ensures { result ≡ product 3 b }
 {

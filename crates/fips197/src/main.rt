@@ -3,6 +3,7 @@
 
 ghost use Rattle.std.specs.Prelude.{◌≤◌};
 
+use aes::RoundKeys;
 use field::Sbox;
 use std::io;
 
@@ -31,20 +32,17 @@ fn cipher_row(rt: &impl Print, name: &[u8], key: &[u8], block: [u8; 16]) -> io::
 }
 
 // The last word that the key's rounds use.
-fn last_word(words: &[u8; 240], rounds: usize) -> [u8; 4]
-    requires { rounds ≤ 14 }
+fn last_word(keys: RoundKeys) -> [u8; 4]
+    requires { keys.rounds ≤ 14 }
 {
-    let at = 16 * rounds + 12;
+    let words = keys.words;
+    let at = 16 * keys.rounds + 12;
     [words[at], words[at + 1], words[at + 2], words[at + 3]]
 }
 
 fn expansion_row(rt: &impl Print, name: &[u8], key: &[u8]) -> io::Result<()> {
-    if let Some(keys) = aes::expand(&Sbox::new(), key)
-        && keys.rounds <= 14
-    {
-        let words = keys.words;
-        let word = last_word(&words, keys.rounds);
-        print_row(rt, name, &word)?;
+    if let Some(keys) = aes::expand(&Sbox::new(), key) {
+        print_row(rt, name, &last_word(keys))?;
     }
     Ok(())
 }

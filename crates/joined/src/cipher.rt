@@ -9,6 +9,7 @@ impl Steps for ByTables {
 
     const AT_ONCE: usize = 9;
 
+    #[tactic(auto, unfolding(aes::specs::Cipher::round, aes::specs::Cipher::add_round_key, lists::specs::Xor::xor))]
     fn round(&self, w: &[u8; 240], n: usize, s: [[u8; 4]; 4]) -> [[u8; 4]; 4] {
         let a = aes::shift_rows(s);
         let i = 4 * n;
@@ -21,6 +22,7 @@ impl Steps for ByTables {
     }
 
     // Nine rounds, which every key has. One behind another they need no counter, and the compiler keeps the state in registers.
+    #[tactic(auto, unfolding(aes::specs::Cipher::rounds))]
     fn first_rounds(&self, w: &[u8; 240], first: [[u8; 4]; 4]) -> [[u8; 4]; 4] {
         let a = self.round(w, 1, first);
         let b = self.round(w, 2, a);

@@ -149,6 +149,7 @@ impl Joined {
     }
 
     // Table k at byte b.
+    #[tactic(auto, using(crate::proofs::Entries::entry_at))]
     pub fn entry(&self, k: usize, b: u8) -> u32
         requires { k < 4 }
         ensures { result ≡ entry k b }

@@ -1,8 +1,0 @@
--- `aes::key::blank` meets its contract, by computing. Assumes nothing.
-use Rattle.std.proofs.Common.{refl}
-use Rattle.lists.specs.Zeros.{zeros}
-use Rattle.aes.proofs.key.blank.Goals as goal
-
-pub returns : goal.returns
-unfolding zeros
-returns c = refl
