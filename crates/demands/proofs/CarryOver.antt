@@ -9,6 +9,7 @@ use Prim.Native.Nat.{ℕ, zero, suc, ◌+◌, ◌-◌, ◌≤◌}
 use native.Mathlib.Omega.{arith}
 use lib.Dec.{leb}
 use lib.ListN.{length}
+use Rattle.std.specs.Prelude.{Ok, Err}
 use Rattle.lists.specs.Lay.{lay}
 use Rattle.lists.specs.Same.{same}
 use Rattle.lists.specs.Zeros.{zeros}
@@ -16,11 +17,11 @@ use Rattle.lists.proofs.Same.{not_same}
 use Rattle.mode.specs.Edition.{edition_of}
 use Rattle.mode.specs.Opening.{Opened, Allowed}
 use Rattle.link.specs.Answers.{number_of, length_of, runs_of}
-use Rattle.link.specs.Checks.{pass, from_to, unless, known_edition, last_form, known_key, call_check}
-use Rattle.link.specs.declared.answer.Answer.{Answer}
-use Rattle.link.specs.declared.answer.Answer.TheVariants.{Key, Nonce, Tag, Data, Length, Room, Form, Edition, SameKey}
-use Rattle.link.proofs.Answers.{no_runs}
-use Rattle.carrying.specs.Checks.{Settings, other, Sided, passed, stopped, of, carry_check, as_carried}
+use Rattle.link.specs.Checks.{from_to, unless, known_edition, last_form, known_key, call_check}
+use Rattle.link.specs.declared.answer.Refusal.{Refusal}
+use Rattle.link.specs.declared.answer.Refusal.TheVariants.{Key, Nonce, Tag, Data, Length, Room, Form, Edition, SameKey}
+use Rattle.link.proofs.Answers.{never_0, no_runs}
+use Rattle.carrying.specs.Checks.{Settings, other, Sided, passed, stopped, of, carry_check}
 use Rattle.carrying.specs.Promises.{sealing_on, seal_runs_on, open_runs_on, carried_as, written_as, CarriesBy, Carries}
 use Rattle.carrying.specs.declared.Carried.{Carried}
 use Rattle.carrying.specs.declared.Side.{Side}
@@ -34,14 +35,18 @@ use Rattle.demands.proofs.Limits.{known, within}
 use Rattle.demands.proofs.Demand1.{refusal_length, first_has}
 use Rattle.demands.proofs.Count.{seal_runs_lem, open_runs_lem}
 
--- ---- the checks as a list and as an answer agree. Of those that the new side shares with all calls 10, which is k, passes, and 3 has
+-- ---- what the checks that stop a call say, and neither and 0 where they pass
+abbrev pub said_by : Sided → Side × ℕ
+said_by (Ok u) = (Neither, 0)
+said_by (Err x) = (x.side, number_of (Err x.refusal))
+
+-- the checks as a list, and what they come to, agree in that. Of those that the new side shares with all calls 10, which is k, passes, and 3 has
 -- passed with the old side's
 said_of : (k : Bool) → k ≡ true → (v a b c d e f a' b' c' e' g h : Bool)
-    → said
-    (as_carried
-    (of Old (unless v Edition (unless a Form (unless b Key (unless c Nonce (unless d Tag (unless e Data (unless f Length (pass 0))))))))
-    (of New (unless k Edition (unless a' Form (unless b' Key (unless c' Nonce (unless d Tag (unless e' Data (pass 0)))))))
-    (of Neither (unless g Room (unless h SameKey (pass 0))) passed))))
+    → said_by
+    (of Old (unless v Edition (unless a Form (unless b Key (unless c Nonce (unless d Tag (unless e Data (unless f Length (Ok (tt {0})))))))))
+    (of New (unless k Edition (unless a' Form (unless b' Key (unless c' Nonce (unless d Tag (unless e' Data (Ok (tt {0}))))))))
+    (of Neither (unless g Room (unless h SameKey (Ok (tt {0})))) passed)))
     ≡ first_of (Neither, 0)
     (((Old, 10), v) ∷ ((Old, 8), a) ∷ ((Old, 1), b) ∷ ((Old, 2), c) ∷ ((Old, 3), d) ∷ ((Old, 4), e) ∷ ((Old, 5), f) ∷ ((New, 8), a') ∷ ((New, 1), b') ∷ ((New, 2), c') ∷ ((New, 4), e') ∷ ((Neither, 6), g) ∷ ((Neither, 11), h) ∷ [])
 said_of true is true true true true true true true true true true true true true = refl
@@ -66,7 +71,7 @@ other_known (suc zero) = refl
 other_known (suc (suc n)) = refl
 
 module _ (edition : ℕ) (old : Settings) (t : ℕ) (s : List ℕ) (new : Settings) (out work : List ℕ) where
-  check_said : said (as_carried (carry_check edition old t s new out work)) ≡ first_said edition old t s new out work
+  check_said : said_by (carry_check edition old t s new out work) ≡ first_said edition old t s new out work
   unfolding carry_check call_check
   check_said =
       said_of (known_edition (other edition)) (other_known edition) (known_edition edition) (leb old.form (last_form edition)) (known_key (length old.key)) (from_to 1 15 (length old.nonce)) (from_to 4 16 t) (leb (length old.ad) 4096)
@@ -82,12 +87,12 @@ module _ (edition : ℕ) (old : Settings) (t : ℕ) (s : List ℕ) (new : Settin
       )
 
   -- one that stops the call is the first that fails
-  stopped_said : (side : Side) (c : Answer) → carry_check edition old t s new out work ≡ stopped side c → (side, number_of c) ≡ first_said edition old t s new out work
-  stopped_said side c e = sym (ap (λ (x : Sided). said (as_carried x)) e) ∙ check_said
+  stopped_said : (side : Side) (c : Refusal) → carry_check edition old t s new out work ≡ stopped side c → (side, number_of (Err c)) ≡ first_said edition old t s new out work
+  stopped_said side c e = sym (ap said_by e) ∙ check_said
 
   -- where all that they make sure of is so, none fails
   none_fails : Fits edition old t (length s) new (length out) (length work) → first_said edition old t s new out work ≡ (Neither, 0)
-  none_fails f = sym check_said ∙ ap (λ (c : Sided). said (as_carried c)) (passes_all edition old t s new out work f)
+  none_fails f = sym check_said ∙ ap said_by (passes_all edition old t s new out work f)
 
 -- ---- what a call comes back with, where `first` is what the first failing check says and n the number of message bytes
 pub record Answers (first : Side × ℕ) (n : ℕ) (out work : List ℕ) (r : Carried) (after cleared : List ℕ) : Type 0 where
@@ -123,9 +128,9 @@ module _ (edition : ℕ) (old : Settings) (t : ℕ) (s : List ℕ) (new : Settin
             untouched = λ z. (ap (λ (x : Carried). length_of x.answer) o.answers, o.leaves);
             zeroed = λ z. o.clears;
           }
-      go (refusal side c some e q) =
+      go (refusal side c e q) =
           let first_is : said r ≡ first_said edition old t s new out work = ap said q.0 ∙ stopped_said edition old t s new out work side c e in
-          let not_0 : answered r ≡ 0 → ⊥ = λ z. some (sym (ap answered q.0) ∙ z) in
+          let not_0 : answered r ≡ 0 → ⊥ = λ z. never_0 c (sym (ap answered q.0) ∙ z) in
           let not_7 : answered r ≡ 7 → ⊥ = λ z. never_7 edition old t s new out work (sym (ap (λ (x : Side × ℕ). x.1) first_is) ∙ z) in
           record {
             stops = λ z. (first_is, no_runs r.answer not_0 not_7, q.1, q.2);
@@ -147,7 +152,7 @@ module _ (edition : ℕ) (old : Settings) (t : ℕ) (s : List ℕ) (new : Settin
       go (forged f o) =
           let seven : answered r ≡ 7 = ap answered o.answers in
           absurd (omega arith)
-      go (refusal side c some e q) = absurd (some (sym (ap answered q.0) ∙ z))
+      go (refusal side c e q) = absurd (never_0 c (sym (ap answered q.0) ∙ z))
 
   pub carried : answered r ≡ 0
       → (m : List ℕ)
@@ -176,8 +181,8 @@ module _ (edition : ℕ) (old : Settings) (t : ℕ) (s : List ℕ) (new : Settin
           let zero : answered r ≡ 0 = ap answered o.answers in
           (λ z. absurd (omega arith), λ none. absurd (none m o.seals))
       go (forged f o) = (λ z. o.none, λ none. ap answered o.answers)
-      go (refusal side c some e q) =
-          absurd (some (ap (λ (x : Side × ℕ). x.1) (stopped_said edition old t s new out work side c e) ∙ first-0))
+      go (refusal side c e q) =
+          absurd (never_0 c (ap (λ (x : Side × ℕ). x.1) (stopped_said edition old t s new out work side c e) ∙ first-0))
 
   -- ---- the runs: the sum of both sides; and on 7 those of the old side's opening
   pub runs_over : answered r ≡ 0
@@ -197,20 +202,20 @@ module _ (edition : ℕ) (old : Settings) (t : ℕ) (s : List ℕ) (new : Settin
           let zero : answered r ≡ 0 = ap answered o.answers in
           absurd (omega arith)
       go (forged f o) = ap (λ (x : Carried). runs_of x.answer) o.answers ∙ open_runs_lem edition old.form old.key old.nonce old.ad t s
-      go (refusal side c some e q) =
+      go (refusal side c e q) =
           absurd (never_7 edition old t s new out work (sym (ap (λ (x : Side × ℕ). x.1) (ap said q.0 ∙ stopped_said edition old t s new out work side c e)) ∙ z))
 
 -- ---- the promise decides: two results that it allows are equal, answer with its side and its runs, output and work buffer
 module _ (edition : ℕ) (old : Settings) (t : ℕ) (s : List ℕ) (new : Settings) (out work : List ℕ) (r r' : Carried) (after after' cleared cleared' : List ℕ) where
   by_carry : (c : Sided) → (c ≡ passed → (o q : Opened) → Allowed (sealing_on edition old t) s o → Allowed (sealing_on edition old t) s q → o ≡ q)
       → CarriesBy edition old t s new out work r after cleared c → CarriesBy edition old t s new out work r' after' cleared' c → (r ≡ r') × (after ≡ after') × (cleared ≡ cleared')
-  by_carry passed one p q =
+  by_carry (Ok u) one p q =
       let same-one = one refl p.0 q.0 p.1 q.1 in (
         p.2 ∙ ap (carried_as (length s) (open_runs_on edition old t s) (seal_runs_on (other edition) new t)) same-one ∙ sym q.2,
         p.3 ∙ ap (λ (o : Opened). written_as (sealing_on (other edition) new t) o out) same-one ∙ sym q.3,
         p.4 ∙ sym q.4,
       )
-  by_carry (stopped side c) one p q = (p.0 ∙ sym q.0, p.1 ∙ sym q.1, p.2 ∙ sym q.2)
+  by_carry (Err x) one p q = (p.0 ∙ sym q.0, p.1 ∙ sym q.1, p.2 ∙ sym q.2)
 
   pub carries_decided : Carries edition old t s new out work r after cleared → Carries edition old t s new out work r' after' cleared' → (r ≡ r') × (after ≡ after') × (cleared ≡ cleared')
   unfolding Carries

@@ -1,12 +1,13 @@
 -- Document 02, wish 6: each answer also reports how many times the cipher ran. Sealing with answer 0, and opening with 0 or 7, report how
 -- many blocks the definitions list as handed to the cipher; every other refusal reports 0. Assumes nothing.
-use mathlib.Core.Path.{◌≡◌, refl, sym, ap, ap₂, ◌∙◌}
+use mathlib.Core.Path.{◌≡◌, sym, ap, ap₂, ◌∙◌}
 use mathlib.Core.Bool.{Bool}
 use mathlib.Core.Logic.{◌⊎◌, inl, inr}
 use mathlib.Core.List.{List, ◌++◌}
 use Prim.Native.Nat.{ℕ, zero, suc, ◌+◌, ◌-◌, ◌/◌, min}
 use native.Mathlib.Omega.{arith}
 use lib.ListN.{length, length-append}
+use Rattle.std.specs.Prelude.{Ok, Err}
 use Rattle.lists.specs.Zeros.{zeros}
 use Rattle.aes.specs.Expansion.{aes}
 use Rattle.mode.specs.declared.edition.Form.TheVariants.{Parallel, Serial}
@@ -18,28 +19,27 @@ use Rattle.mode.specs.Sealing.{from_inputs, otr_inputs}
 use Rattle.mode.specs.Opening.{accepted, refused}
 use Rattle.mode.specs.Undoing.{found_from_inputs, found_inputs}
 use Rattle.mode.proofs.Runs.{length-q_inputs, length-from_inputs, length-found_from_inputs}
-use Rattle.link.specs.Answers.{number_of, runs_of}
-use Rattle.link.specs.Checks.{Check, pass, stop, call_check, seal_next, open_next, as_answer}
+use Rattle.link.specs.Answers.{Answer, number_of, runs_of}
+use Rattle.link.specs.Checks.{Check, call_check, seal_next, open_next}
 use Rattle.link.specs.Prepared.{cipher_of}
 use Rattle.link.specs.Promises.{sealing, seal_runs, open_runs, SealsBy, Seals, OpensBy, Opens, sealing_with, seal_runs_with, open_runs_with, SealsWith, OpensWith}
-use Rattle.link.specs.declared.answer.Answer.{Answer}
 use Rattle.link.specs.declared.prepared.Prepared.{Prepared}
-use Rattle.link.proofs.Answers.{no_runs}
-use Rattle.link.proofs.Verdicts.{Verdict, OpenFits, sealing_done, seal_verdict, open_verdict}
+use Rattle.link.proofs.Answers.{never_0, no_runs}
+use Rattle.link.proofs.Verdicts.{sealing_done, seal_verdict}
 use Rattle.demands.specs.Calls.{key_known, rounds_known, formula, formula_with}
-use Rattle.demands.proofs.Demand1.{stop_is, answers_not_7, open_not_7}
+use Rattle.demands.proofs.Demand1.{stop_number, answers_not_7, open_not_7}
 
 -- what an answer r reports of a call that hands the cipher k blocks if it comes to that
 pub record Counts (k : ℕ) (r : Answer) : Type 0 where
   pub ran : (number_of r ≡ 0) ⊎ (number_of r ≡ 7) → runs_of r ≡ k
   pub refused : (number_of r ≡ 0 → ⊥) → (number_of r ≡ 7 → ⊥) → runs_of r ≡ 0
 
-by_open : (c : Check) (k : ℕ) (seal : List ℕ → List ℕ) (s out : List ℕ) (r : Answer) (after : List ℕ) → ((x : Answer) → c ≡ stop x → number_of x ≡ 0 → ⊥)
-    → (number_of (as_answer c) ≡ 7 → ⊥) → OpensBy c k seal s out r after → (number_of r ≡ 0) ⊎ (number_of r ≡ 7) → runs_of r ≡ k
-by_open (pass n) k seal s out r after never not7 (accepted m, q, h, e) z = ap runs_of h
-by_open (pass n) k seal s out r after never not7 (refused, q, h, e) z = ap runs_of h
-by_open (stop x) k seal s out r after never not7 p (inl z) = absurd (never x refl (sym (ap number_of p.0) ∙ z))
-by_open (stop x) k seal s out r after never not7 p (inr z) = absurd (not7 (sym (ap number_of p.0) ∙ z))
+by_open : (c : Check) (k : ℕ) (seal : List ℕ → List ℕ) (s out : List ℕ) (r : Answer) (after : List ℕ)
+    → (stop_number c ≡ 7 → ⊥) → OpensBy c k seal s out r after → (number_of r ≡ 0) ⊎ (number_of r ≡ 7) → runs_of r ≡ k
+by_open (Ok n) k seal s out r after not7 (accepted m, q, h, e) z = ap runs_of h
+by_open (Ok n) k seal s out r after not7 (refused, q, h, e) z = ap runs_of h
+by_open (Err x) k seal s out r after not7 p (inl z) = absurd (never_0 x (sym (ap number_of p.0) ∙ z))
+by_open (Err x) k seal s out r after not7 p (inr z) = absurd (not7 (sym (ap number_of p.0) ∙ z))
 
 -- whatever seals, once the checks have passed
 module _ (edition form : ℕ) (known : Bool) (nonce ad : List ℕ) (t : ℕ) (out : List ℕ) (r : Answer) (after : List ℕ) (k : ℕ) where
@@ -55,18 +55,9 @@ module _ (edition form : ℕ) (known : Bool) (nonce ad : List ℕ) (t : ℕ) (ou
       → Counts k r
   open_counts s seal p =
       record {
-        ran = by_open checks k seal s out r after (stop_is Fits (length s - t) checks verdict) (open_not_7 edition form known nonce ad s t out) p;
+        ran = by_open (call_check edition form known (length nonce) t (length ad) (open_next t (length s) (length out))) k seal s out r after (open_not_7 edition form known nonce ad s t out) p;
         refused = no_runs r;
       }
-    where
-      Fits : Type 0
-      Fits = OpenFits edition form known (length nonce) t (length ad) (length s) (length out)
-
-      checks : Check
-      checks = call_check edition form known (length nonce) t (length ad) (open_next t (length s) (length out))
-
-      verdict : Verdict Fits (length s - t) checks
-      verdict = open_verdict edition form known (length nonce) t (length ad) (length s) (length out)
 
 -- ---- under a raw key
 module _ (edition form : ℕ) (key nonce ad : List ℕ) (t : ℕ) (out : List ℕ) (r : Answer) (after : List ℕ) where

@@ -9,22 +9,27 @@ use Prim.Native.Nat.{ℕ, ◌+◌, ◌-◌}
 use native.Mathlib.Omega.{arith}
 use lib.Dec.{leb}
 use lib.ListN.{length}
+use Rattle.std.specs.Prelude.{Ok, Err}
 use Rattle.lists.specs.Lay.{lay}
 use Rattle.lists.specs.Zeros.{zeros}
 use Rattle.mode.specs.Opening.{accepted, refused}
-use Rattle.link.specs.Answers.{number_of, length_of}
-use Rattle.link.specs.Checks.{Check, pass, stop, from_to, unless, known_edition, last_form, call_check, seal_next, open_next, as_answer}
+use Rattle.link.specs.Answers.{Answer, number_of, length_of}
+use Rattle.link.specs.Checks.{Check, from_to, unless, known_edition, last_form, call_check, seal_next, open_next}
 use Rattle.link.specs.Promises.{sealing, seal_runs, open_runs, SealsBy, Seals, OpensBy, Opens, sealing_with, seal_runs_with, open_runs_with, SealsWith, OpensWith}
-use Rattle.link.specs.declared.answer.Answer.{Answer}
-use Rattle.link.specs.declared.answer.Answer.TheVariants.{Key, Nonce, Tag, Data, Length, Room, Form, Edition}
+use Rattle.link.specs.declared.answer.Refusal.TheVariants.{Key, Nonce, Tag, Data, Length, Room, Form, Edition}
 use Rattle.link.specs.declared.prepared.Prepared.{Prepared}
-use Rattle.link.proofs.Answers.{Answered, done, forged, planned, refusal, answered}
-use Rattle.link.proofs.Verdicts.{Verdict, passes, stops, pass_or_stop, OpenFits, open_verdict}
+use Rattle.link.proofs.Answers.{never_0, Answered, finished, forged, planned, refusal, answered}
+use Rattle.link.proofs.Verdicts.{Verdict, sure, OpenFits, open_verdict}
 use Rattle.demands.specs.Calls.{first_of, first_failing, key_known, rounds_known, seal_checks, open_checks}
 
--- the checks as a list and as an answer agree in the number
+-- the number of what the checks stop at, and 0 where they pass
+abbrev pub stop_number : Check → ℕ
+stop_number (Ok n) = 0
+stop_number (Err r) = number_of (Err r)
+
+-- the checks as a list, and what they come to, agree in the number
 number_of_lem : (v a b c d e f g : Bool) (n : ℕ)
-    → number_of (as_answer (unless v Edition (unless a Form (unless b Key (unless c Nonce (unless d Tag (unless e Data (unless f Length (unless g Room (pass n))))))))))
+    → stop_number (unless v Edition (unless a Form (unless b Key (unless c Nonce (unless d Tag (unless e Data (unless f Length (unless g Room (Ok n)))))))))
     ≡ first_failing ((10, v) ∷ (8, a) ∷ (1, b) ∷ (2, c) ∷ (3, d) ∷ (4, e) ∷ (5, f) ∷ (6, g) ∷ [])
 number_of_lem true true true true true true true true n = refl
 number_of_lem true true true true true true true false n = refl
@@ -56,27 +61,27 @@ pub refusal_length : (r : Answer) → (number_of r ≡ 0 → ⊥) → length_of 
 refusal_length r z = go (answered r)
   where
     go : Answered r → length_of r ≡ 0
-    go (done n k e) = absurd (z (ap number_of e))
+    go (finished n k e) = absurd (z (ap number_of e))
     go (forged k e) = ap length_of e
     go (planned e) = ap length_of e
     go (refusal most none runs stands) = none
 
 -- ---- sealing
 by_seal : (c : Check) (k : ℕ) (bytes out : List ℕ) (r : Answer) (after : List ℕ) → SealsBy c k bytes out r after
-    → (number_of r ≡ number_of (as_answer c)) × ((number_of r ≡ 0 → ⊥) → (length_of r ≡ 0) × (after ≡ out))
-by_seal (pass n) k bytes out r after p = (ap number_of p.0, λ z. absurd (z (ap number_of p.0)))
-by_seal (stop x) k bytes out r after p = (ap number_of p.0, λ z. (refusal_length r z, p.1))
+    → (number_of r ≡ stop_number c) × ((number_of r ≡ 0 → ⊥) → (length_of r ≡ 0) × (after ≡ out))
+by_seal (Ok n) k bytes out r after p = (ap number_of p.0, λ z. absurd (z (ap number_of p.0)))
+by_seal (Err x) k bytes out r after p = (ap number_of p.0, λ z. (refusal_length r z, p.1))
 
 -- whether the key is known is all that the checks take of it
 module _ (edition form : ℕ) (known : Bool) (nonce ad m : List ℕ) (t : ℕ) (out : List ℕ) where
-  pub seal_number : number_of (as_answer (call_check edition form known (length nonce) t (length ad) (seal_next t (length m) (length out)))) ≡ first_failing (seal_checks edition form known nonce ad m t out)
+  pub seal_number : stop_number (call_check edition form known (length nonce) t (length ad) (seal_next t (length m) (length out))) ≡ first_failing (seal_checks edition form known nonce ad m t out)
   unfolding call_check
   seal_number =
       number_of_lem (known_edition edition) (leb form (last_form edition)) known (from_to 1 15 (length nonce)) (from_to 4 16 t) (leb (length ad) 4096) (leb (length m) 16384)
       (leb (length m + t) (length out)) (length m + t)
 
   -- they do not stop at 7
-  pub seal_not_7 : number_of (as_answer (call_check edition form known (length nonce) t (length ad) (seal_next t (length m) (length out)))) ≡ 7 → ⊥
+  pub seal_not_7 : stop_number (call_check edition form known (length nonce) t (length ad) (seal_next t (length m) (length out))) ≡ 7 → ⊥
   seal_not_7 h =
       never_7 (known_edition edition) (leb form (last_form edition)) known (from_to 1 15 (length nonce)) (from_to 4 16 t) (leb (length ad) 4096) (leb (length m) 16384)
       (leb (length m + t) (length out)) (sym seal_number ∙ h)
@@ -115,58 +120,36 @@ pub record Answers (i n : ℕ) (out : List ℕ) (r : Answer) (after : List ℕ) 
   pub forged : number_of r ≡ 7 → (length_of r ≡ 0) × (after ≡ lay 0 (zeros n) out)
 
 by_open : (c : Check) (n k : ℕ) (seal : List ℕ → List ℕ) (s out : List ℕ) (r : Answer) (after : List ℕ)
-    → (number_of (as_answer c) ≡ 7 → ⊥) → ((i : ℕ) → c ≡ pass i → i ≡ n) → ((x : Answer) → c ≡ stop x → number_of x ≡ 0 → ⊥)
-    → OpensBy c k seal s out r after → Answers (number_of (as_answer c)) n out r after
-by_open (pass i) n k seal s out r after not7 at never (accepted m, q, h, e) =
+    → (stop_number c ≡ 7 → ⊥) → ((i : ℕ) → c ≡ Ok i → i ≡ n)
+    → OpensBy c k seal s out r after → Answers (stop_number c) n out r after
+by_open (Ok i) n k seal s out r after not7 at (accepted m, q, h, e) =
     record {
       stopped = λ z. absurd (z refl);
       through = λ z. inl (ap number_of h);
       forged = λ z. absurd (let done_is : number_of r ≡ 0 = ap number_of h in omega arith);
     }
-by_open (pass i) n k seal s out r after not7 at never (refused, q, h, e) =
+by_open (Ok i) n k seal s out r after not7 at (refused, q, h, e) =
     record {
       stopped = λ z. absurd (z refl);
       through = λ z. inr (ap number_of h);
       forged = λ z. (ap length_of h, e ∙ ap (λ (j : ℕ). lay 0 (zeros j) out) (at i refl));
     }
-by_open (stop x) n k seal s out r after not7 at never p =
+by_open (Err x) n k seal s out r after not7 at p =
     record {
       stopped = λ z. (ap number_of p.0, refusal_length r (λ y. z (sym (ap number_of p.0) ∙ y)), p.1);
-      through = λ z. absurd (never x refl z);
+      through = λ z. absurd (never_0 x z);
       forged = λ z. absurd (not7 (sym (ap number_of p.0) ∙ z));
     }
 
--- what the checks of opening come to
-same_pass : (i n : ℕ) → pass i ≡ pass n → i ≡ n
-same_pass i n e = cc
-
-module _ (P : Type 0) (n : ℕ) (c : Check) (v : Verdict P n c) where
-  pass_is : (i : ℕ) → c ≡ pass i → i ≡ n
-  pass_is i h = go v
-    where
-      go : Verdict P n c → i ≡ n
-      go (passes p e) = same_pass i n (sym h ∙ e)
-      go (stops x z e) = absurd (pass_or_stop i x (sym h ∙ e))
-
-  pub stop_is : (x : Answer) → c ≡ stop x → number_of x ≡ 0 → ⊥
-  stop_is x h k = go v
-    where
-      go : Verdict P n c → ⊥
-      go (passes p e) = pass_or_stop n x (sym e ∙ h)
-      go (stops y z e) =
-          let same : stop y ≡ stop x = sym e ∙ h in
-          let yx : y ≡ x = cc in
-          z (ap number_of yx ∙ k)
-
 -- the checks of opening
 module _ (edition form : ℕ) (known : Bool) (nonce ad s : List ℕ) (t : ℕ) (out : List ℕ) where
-  open_number : number_of (as_answer (call_check edition form known (length nonce) t (length ad) (open_next t (length s) (length out)))) ≡ first_failing (open_checks edition form known nonce ad s t out)
+  open_number : stop_number (call_check edition form known (length nonce) t (length ad) (open_next t (length s) (length out))) ≡ first_failing (open_checks edition form known nonce ad s t out)
   unfolding call_check
   open_number =
       number_of_lem (known_edition edition) (leb form (last_form edition)) known (from_to 1 15 (length nonce)) (from_to 4 16 t) (leb (length ad) 4096) (from_to t (16384 + t) (length s))
       (leb (length s - t) (length out)) (length s - t)
 
-  pub open_not_7 : number_of (as_answer (call_check edition form known (length nonce) t (length ad) (open_next t (length s) (length out)))) ≡ 7 → ⊥
+  pub open_not_7 : stop_number (call_check edition form known (length nonce) t (length ad) (open_next t (length s) (length out))) ≡ 7 → ⊥
   open_not_7 h =
       never_7 (known_edition edition) (leb form (last_form edition)) known (from_to 1 15 (length nonce)) (from_to 4 16 t) (leb (length ad) 4096) (from_to t (16384 + t) (length s))
       (leb (length s - t) (length out)) (sym open_number ∙ h)
@@ -176,7 +159,7 @@ module _ (edition form : ℕ) (known : Bool) (nonce ad s : List ℕ) (t : ℕ) (
       → Answers (first_failing (open_checks edition form known nonce ad s t out)) (length s - t) out r after
   answers_open k seal r after p =
       subst (λ (i : ℕ). Answers i (length s - t) out r after) open_number
-      (by_open checks (length s - t) k seal s out r after open_not_7 (pass_is Fits (length s - t) checks verdict) (stop_is Fits (length s - t) checks verdict) p)
+      (by_open checks (length s - t) k seal s out r after open_not_7 written p)
     where
       checks : Check
       checks = call_check edition form known (length nonce) t (length ad) (open_next t (length s) (length out))
@@ -186,6 +169,11 @@ module _ (edition form : ℕ) (known : Bool) (nonce ad s : List ℕ) (t : ℕ) (
 
       verdict : Verdict Fits (length s - t) checks
       verdict = open_verdict edition form known (length nonce) t (length ad) (length s) (length out)
+
+      written : (i : ℕ) → checks ≡ Ok i → i ≡ length s - t
+      written i h =
+          let e = (sure verdict i h).1 in
+          cc
 
 pub opening_answers : (edition form : ℕ) (key nonce ad s : List ℕ) (t : ℕ) (out : List ℕ) (r : Answer) (after : List ℕ) → Opens edition form key nonce ad s t out r after
     → Answers (first_failing (open_checks edition form (key_known key) nonce ad s t out)) (length s - t) out r after

@@ -7,6 +7,7 @@ use mathlib.Core.List.{List}
 use Prim.Native.Nat.{ℕ, ◌+◌, ◌-◌, ◌≤◌}
 use native.Mathlib.Omega.{arith}
 use lib.ListN.{length}
+use Rattle.std.specs.Prelude.{Ok}
 use Rattle.lists.specs.Lay.{lay}
 use Rattle.lists.specs.Zeros.{zeros}
 use Rattle.aes.specs.Expansion.{aes}
@@ -17,11 +18,10 @@ use Rattle.mode.specs.Sealing.{data_tag, otr_from, otr}
 use Rattle.mode.specs.Opening.{accepted, refused}
 use Rattle.mode.proofs.Otr.{length-otr, otr_injective}
 use Rattle.pairs.proofs.Cipher.{is_cipher, length-ta}
-use Rattle.link.specs.Checks.{Check, pass, call_check, seal_next, open_next}
+use Rattle.link.specs.Answers.{Answer, done}
+use Rattle.link.specs.Checks.{Check, call_check, seal_next, open_next}
 use Rattle.link.specs.Prepared.{cipher_of}
 use Rattle.link.specs.Promises.{seal_runs, open_runs, SealsBy, Seals, OpensBy, Opens, seal_runs_with, open_runs_with, SealsWith, OpensWith}
-use Rattle.link.specs.declared.answer.Answer.{Answer}
-use Rattle.link.specs.declared.answer.Answer.TheVariants.{Done}
 use Rattle.link.specs.declared.prepared.Prepared.{Prepared}
 use Rattle.link.proofs.Entries.{aes_cipher, aes_ta}
 use Rattle.demands.specs.Calls.{key_known, rounds_known, Limits, OneOf}
@@ -31,8 +31,8 @@ use Rattle.demands.proofs.Limits.{known, seal_passes, open_passes}
 -- message comes back, and nothing else
 module _ (E : List ℕ → List ℕ) (e : IsCipher E) (q : List ℕ) (f : Edition) (nonce ad m : List ℕ) (t : ℕ) (h : length (data_tag E q f ad) ≡ 16)
     (hn : length nonce ≤ 15) (ht : t ≤ 16) (out : List ℕ) (r : Answer) (after : List ℕ) where
-  pub any_cipher : (k : ℕ) → OpensBy (pass (length m)) k (otr_from E q f nonce ad t) (otr_from E q f nonce ad t m) out r after
-      → (r ≡ Done (length m) k) × (after ≡ lay 0 m out)
+  pub any_cipher : (k : ℕ) → OpensBy (Ok (length m)) k (otr_from E q f nonce ad t) (otr_from E q f nonce ad t m) out r after
+      → (r ≡ done (length m) k) × (after ≡ lay 0 m out)
   any_cipher k (accepted n, a, is, b) = (is, b ∙ ap (λ (x : List ℕ). lay 0 x out) (otr_injective E e q f nonce ad t h hn ht n m a))
   any_cipher k (refused, a, is, b) = absurd (a m refl)
 
@@ -43,7 +43,7 @@ module _ (E : List ℕ → List ℕ) (e : IsCipher E) (q : List ℕ) (edition fo
   seal = otr_from E q (edition_of edition form) nonce ad t
 
   sealing_is : length m + t ≤ length out → SealsBy (call_check edition form key (length nonce) t (length ad) (seal_next t (length m) (length out))) k (seal m) out r after
-      → (r ≡ Done (length m + t) k) × (after ≡ lay 0 (seal m) out)
+      → (r ≡ done (length m + t) k) × (after ≡ lay 0 (seal m) out)
   sealing_is room =
       subst (λ (c : Check). SealsBy c k (seal m) out r after)
       (seal_passes edition form key (length nonce) t (length ad) is limits (length m) (length out) short room)
@@ -53,12 +53,12 @@ module _ (E : List ℕ → List ℕ) (e : IsCipher E) (q : List ℕ) (edition fo
   sealed_long = length-otr E e q (edition_of edition form) nonce ad t h limits.nonces.1 limits.tags.1 m
 
   opening_is : length m ≤ length out → OpensBy (call_check edition form key (length nonce) t (length ad) (open_next t (length (seal m)) (length out))) k seal (seal m) out r after
-      → (r ≡ Done (length m) k) × (after ≡ lay 0 m out)
+      → (r ≡ done (length m) k) × (after ≡ lay 0 m out)
   unfolding seal
   opening_is room p =
       any_cipher E e q (edition_of edition form) nonce ad m t h limits.nonces.1 limits.tags.1 out r after k
       (subst (λ (c : Check). OpensBy c k seal (seal m) out r after)
-      (open_passes edition form key (length nonce) t (length ad) is limits (length (seal m)) (length out) (omega (arith, sealed_long)) (omega (arith, sealed_long)) (omega (arith, left)) ∙ ap pass left) p)
+      (open_passes edition form key (length nonce) t (length ad) is limits (length (seal m)) (length out) (omega (arith, sealed_long)) (omega (arith, sealed_long)) (omega (arith, left)) ∙ ap Ok left) p)
     where
       left : length (seal m) - t ≡ length m
       left = omega (arith, sealed_long)
@@ -67,7 +67,7 @@ module _ (E : List ℕ → List ℕ) (e : IsCipher E) (q : List ℕ) (edition fo
 module _ (edition form : ℕ) (key nonce ad m : List ℕ) (t : ℕ) (keys : OneOf 16 24 32 (length key)) (limits : Limits edition form (length nonce) t (length ad)) (short : length m ≤ 16384) where
   -- given room, the call is done, and the buffer has exactly the sealed bytes in front
   pub is_sealed : (out : List ℕ) → length m + t ≤ length out → (r : Answer) (after : List ℕ) → Seals edition form key nonce ad m t out r after
-      → (r ≡ Done (length m + t) (seal_runs edition form key nonce ad t m)) × (after ≡ lay 0 (otr (aes key) (edition_of edition form) nonce ad t m) out)
+      → (r ≡ done (length m + t) (seal_runs edition form key nonce ad t m)) × (after ≡ lay 0 (otr (aes key) (edition_of edition form) nonce ad t m) out)
   unfolding Seals seal
   is_sealed out room r after =
       sealing_is (aes key) (aes_cipher key) (aes key (zeros 16)) edition form (key_known key) nonce ad m t (aes_ta key (edition_of edition form) ad) (known 16 24 32 (length key) keys) limits short
@@ -75,7 +75,7 @@ module _ (edition form : ℕ) (key nonce ad m : List ℕ) (t : ℕ) (keys : OneO
 
   -- and opened again: the message, and nothing else
   pub round_trip : (out : List ℕ) → length m ≤ length out → (r : Answer) (after : List ℕ) → Opens edition form key nonce ad (otr (aes key) (edition_of edition form) nonce ad t m) t out r after
-      → (r ≡ Done (length m) (open_runs edition form key nonce ad t (otr (aes key) (edition_of edition form) nonce ad t m))) × (after ≡ lay 0 m out)
+      → (r ≡ done (length m) (open_runs edition form key nonce ad t (otr (aes key) (edition_of edition form) nonce ad t m))) × (after ≡ lay 0 m out)
   unfolding Opens seal
   round_trip out room r after =
       opening_is (aes key) (aes_cipher key) (aes key (zeros 16)) edition form (key_known key) nonce ad m t (aes_ta key (edition_of edition form) ad) (known 16 24 32 (length key) keys) limits short
@@ -87,7 +87,7 @@ module _ (edition form : ℕ) (p : Prepared) (nonce ad m : List ℕ) (t : ℕ) (
   long = length-ta p.rounds p.words p.zero (edition_of edition form) ad
 
   pub is_sealed_with : (out : List ℕ) → length m + t ≤ length out → (r : Answer) (after : List ℕ) → SealsWith edition form p nonce ad m t out r after
-      → (r ≡ Done (length m + t) (seal_runs_with edition form p nonce ad t m)) × (after ≡ lay 0 (otr_from (cipher_of p) p.zero (edition_of edition form) nonce ad t m) out)
+      → (r ≡ done (length m + t) (seal_runs_with edition form p nonce ad t m)) × (after ≡ lay 0 (otr_from (cipher_of p) p.zero (edition_of edition form) nonce ad t m) out)
   unfolding SealsWith seal
   is_sealed_with out room r after =
       sealing_is (cipher_of p) (is_cipher p.rounds p.words) p.zero edition form (rounds_known p) nonce ad m t long (known 10 12 14 p.rounds rounds) limits short
@@ -95,7 +95,7 @@ module _ (edition form : ℕ) (p : Prepared) (nonce ad m : List ℕ) (t : ℕ) (
 
   pub round_trip_with : (out : List ℕ) → length m ≤ length out → (r : Answer) (after : List ℕ)
       → OpensWith edition form p nonce ad (otr_from (cipher_of p) p.zero (edition_of edition form) nonce ad t m) t out r after
-      → (r ≡ Done (length m) (open_runs_with edition form p nonce ad t (otr_from (cipher_of p) p.zero (edition_of edition form) nonce ad t m))) × (after ≡ lay 0 m out)
+      → (r ≡ done (length m) (open_runs_with edition form p nonce ad t (otr_from (cipher_of p) p.zero (edition_of edition form) nonce ad t m))) × (after ≡ lay 0 m out)
   unfolding OpensWith seal
   round_trip_with out room r after =
       opening_is (cipher_of p) (is_cipher p.rounds p.words) p.zero edition form (rounds_known p) nonce ad m t long (known 10 12 14 p.rounds rounds) limits short

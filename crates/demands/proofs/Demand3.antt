@@ -8,6 +8,7 @@ use mathlib.Core.List.{List}
 use Prim.Native.Nat.{ℕ, ◌+◌, ◌-◌, ◌≤◌}
 use native.Mathlib.Omega.{arith}
 use lib.ListN.{length}
+use Rattle.std.specs.Prelude.{Ok}
 use Rattle.lists.specs.Lay.{lay}
 use Rattle.lists.specs.Zeros.{zeros}
 use Rattle.aes.specs.Expansion.{aes}
@@ -18,11 +19,10 @@ use Rattle.mode.specs.Sealing.{data_tag, otr_from, otr}
 use Rattle.mode.specs.Opening.{accepted, refused}
 use Rattle.mode.proofs.Otr.{length-otr, otr_injective}
 use Rattle.pairs.proofs.Cipher.{is_cipher, length-ta}
-use Rattle.link.specs.Answers.{number_of, length_of}
-use Rattle.link.specs.Checks.{Check, pass}
+use Rattle.link.specs.Answers.{Answer, number_of, length_of}
+use Rattle.link.specs.Checks.{Check}
 use Rattle.link.specs.Prepared.{cipher_of}
 use Rattle.link.specs.Promises.{open_runs, OpensBy, Opens, sealing_with, open_runs_with, OpensWith}
-use Rattle.link.specs.declared.answer.Answer.{Answer}
 use Rattle.link.specs.declared.prepared.Prepared.{Prepared}
 use Rattle.link.proofs.Entries.{aes_cipher, aes_ta}
 use Rattle.demands.specs.Calls.{key_known, rounds_known, Limits, OneOf}
@@ -39,7 +39,7 @@ pub record Opening (seal : List ℕ → List ℕ) (s out : List ℕ) (r : Answer
 -- ---- for any cipher E, and any first mask q with which TA has 16 bytes, as it has where q has
 module _ (E : List ℕ → List ℕ) (e : IsCipher E) (q : List ℕ) (f : Edition) (nonce ad s : List ℕ) (t : ℕ) (h : length (data_tag E q f ad) ≡ 16)
     (hn : length nonce ≤ 15) (ht : t ≤ 16) (out : List ℕ) (r : Answer) (after : List ℕ) where
-  pub any_cipher : (k : ℕ) → OpensBy (pass (length s - t)) k (otr_from E q f nonce ad t) s out r after → Opening (otr_from E q f nonce ad t) s out r after
+  pub any_cipher : (k : ℕ) → OpensBy (Ok (length s - t)) k (otr_from E q f nonce ad t) s out r after → Opening (otr_from E q f nonce ad t) s out r after
   any_cipher k (accepted m, a, is, b) =
       let done_is : number_of r ≡ 0 = ap number_of is in
       let long : length s ≡ length m + t = sym (ap length a) ∙ length-otr E e q f nonce ad t h hn ht m in

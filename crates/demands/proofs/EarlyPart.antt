@@ -18,11 +18,10 @@ use Rattle.mode.proofs.Editions.{form_0}
 use Rattle.mode.proofs.Otr.{otr-masks, length-otr}
 use Rattle.mode.proofs.EarlyPart.{renamed, early_part, parallel_masks}
 use Rattle.pairs.proofs.Cipher.{is_cipher, length-ta}
-use Rattle.link.specs.Answers.{number_of}
+use Rattle.link.specs.Answers.{Answer, number_of}
 use Rattle.link.specs.Checks.{call_check, seal_next}
 use Rattle.link.specs.Prepared.{cipher_of}
 use Rattle.link.specs.Promises.{seal_runs, SealsBy, Seals, seal_runs_with, SealsWith}
-use Rattle.link.specs.declared.answer.Answer.{Answer}
 use Rattle.link.specs.declared.prepared.Prepared.{Prepared}
 use Rattle.link.proofs.Entries.{aes_cipher, aes_ta}
 use Rattle.link.proofs.Verdicts.{sealing_done, seal_verdict}

@@ -11,24 +11,23 @@ use lib.Dec.{leb}
 use lib.ListN.{length, take, drop}
 use lib.Seq.{take_at}
 use borrow.Author.Tests.{leb-true, leb-false}
+use Rattle.std.specs.Prelude.{Ok, Err}
 use Rattle.lists.specs.Lay.{lay}
 use Rattle.mode.specs.Message.{pairs_of}
 use Rattle.plans.specs.Plan.{Accepted, Rearranged}
 use Rattle.plans.specs.Planner.{plan_of, load}
 use Rattle.plans.proofs.Plans.{rearranged, one_judgement}
 use Rattle.plans.proofs.Planned.{length-plan_of, planner_accepted, even_loads}
-use Rattle.link.specs.Answers.{number_of, length_of, runs_of}
-use Rattle.link.specs.Checks.{Check, pass, stop, unless, seal_check, as_answer}
+use Rattle.link.specs.Answers.{Answer, done, number_of, length_of, runs_of}
+use Rattle.link.specs.Checks.{Check, unless, seal_check}
 use Rattle.link.specs.Promises.{sealing, seal_runs, SealsBy, Seals}
-use Rattle.link.specs.declared.answer.Answer.{Answer}
-use Rattle.link.specs.declared.answer.Answer.TheVariants.{Done, Length, Room, Plan}
-use Rattle.link.proofs.Answers.{no_runs}
-use Rattle.link.proofs.Verdicts.{seal_verdict}
+use Rattle.link.specs.declared.answer.Refusal.TheVariants.{Length, Room, Plan}
+use Rattle.link.proofs.Answers.{never_0, no_runs}
 use Rattle.engines.specs.Promises.{PlannedBy, SealsPlanned, plan_check, Plans}
 use Rattle.engines.proofs.Planning.{too_long, no_room, planned}
 use Rattle.demands.specs.Calls.{first_failing, key_known, seal_checks}
 use Rattle.demands.proofs.Decided.{by_seal, seals_decided}
-use Rattle.demands.proofs.Demand1.{first_has, refusal_length, seal_number, seal_not_7, stop_is}
+use Rattle.demands.proofs.Demand1.{first_has, refusal_length, seal_number, stop_number, seal_not_7}
 
 -- ---- whatever the checks c come to, and a plan for n pairs
 module _ (c : Check) (k : ℕ) (bytes : List ℕ) (n : ℕ) (plan out : List ℕ) where
@@ -36,10 +35,10 @@ module _ (c : Check) (k : ℕ) (bytes : List ℕ) (n : ℕ) (plan out : List ℕ
   by_plan r r' a a' = go c
     where
       go : (d : Check) → PlannedBy d k bytes n plan out r a → PlannedBy d k bytes n plan out r' a' → (r ≡ r') × (a ≡ a')
-      go (pass i) (b, j, p) (b', j', p') =
-          by_seal (unless b Plan (pass i)) k bytes out r r' a a' p
-          (subst (λ (x : Bool). SealsBy (unless x Plan (pass i)) k bytes out r' a') (one_judgement n plan b' b j' j) p')
-      go (stop x) p p' = (p.0 ∙ sym p'.0, p.1 ∙ sym p'.1)
+      go (Ok i) (b, j, p) (b', j', p') =
+          by_seal (unless b Plan (Ok i)) k bytes out r r' a a' p
+          (subst (λ (x : Bool). SealsBy (unless x Plan (Ok i)) k bytes out r' a') (one_judgement n plan b' b j' j) p')
+      go (Err x) p p' = (p.0 ∙ sym p'.0, p.1 ∙ sym p'.1)
 
   module _ (r : Answer) (after : List ℕ) where
     -- an accepted plan is no other than none
@@ -47,16 +46,16 @@ module _ (c : Check) (k : ℕ) (bytes : List ℕ) (n : ℕ) (plan out : List ℕ
     as_sealing is = go c
       where
         go : (d : Check) → PlannedBy d k bytes n plan out r after → SealsBy d k bytes out r after
-        go (pass i) (true, j, p) = p
-        go (pass i) (false, j, p) = absurd (j is)
-        go (stop x) p = p
+        go (Ok i) (true, j, p) = p
+        go (Ok i) (false, j, p) = absurd (j is)
+        go (Err x) p = p
 
     as_planned : Accepted n plan → SealsBy c k bytes out r after → PlannedBy c k bytes n plan out r after
     as_planned is = go c
       where
         go : (d : Check) → SealsBy d k bytes out r after → PlannedBy d k bytes n plan out r after
-        go (pass i) p = (true, is, p)
-        go (stop x) p = p
+        go (Ok i) p = (true, is, p)
+        go (Err x) p = p
 
 -- ---- what a call comes back with, where `first` is the number of the first failing check of sealing
 pub record PlannedAnswers (first n : ℕ) (plan out : List ℕ) (r : Answer) (after : List ℕ) : Type 0 where
@@ -69,9 +68,9 @@ pub record PlannedAnswers (first n : ℕ) (plan out : List ℕ) (r : Answer) (af
   pub untouched : (number_of r ≡ 0 → ⊥) → (length_of r ≡ 0) × (runs_of r ≡ 0) × (after ≡ out)
 
 by_number : (c : Check) (k : ℕ) (bytes : List ℕ) (n : ℕ) (plan out : List ℕ) (r : Answer) (after : List ℕ) (first : ℕ)
-    → number_of (as_answer c) ≡ first → ((x : Answer) → c ≡ stop x → number_of x ≡ 0 → ⊥) → (first ≡ 7 → ⊥) → (first ≡ 13 → ⊥)
+    → stop_number c ≡ first → (first ≡ 7 → ⊥) → (first ≡ 13 → ⊥)
     → PlannedBy c k bytes n plan out r after → PlannedAnswers first n plan out r after
-by_number (pass i) k bytes n plan out r after first is never not7 not13 (true, j, p) =
+by_number (Ok i) k bytes n plan out r after first is not7 not13 (true, j, p) =
     let z : number_of r ≡ 0 = ap number_of p.0 in
     record {
       stopped = λ some. absurd (some (sym is));
@@ -79,7 +78,7 @@ by_number (pass i) k bytes n plan out r after first is never not7 not13 (true, j
       thirteen = (λ d. absurd (omega arith), λ q. absurd (q.1 j));
       untouched = λ some. absurd (some z);
     }
-by_number (pass i) k bytes n plan out r after first is never not7 not13 (false, j, p) =
+by_number (Ok i) k bytes n plan out r after first is not7 not13 (false, j, p) =
     let t : number_of r ≡ 13 = ap number_of p.0 in
     record {
       stopped = λ some. absurd (some (sym is));
@@ -87,9 +86,9 @@ by_number (pass i) k bytes n plan out r after first is never not7 not13 (false, 
       thirteen = (λ d. (sym is, j), λ q. t);
       untouched = λ some. (refusal_length r some, ap runs_of p.0, p.1);
     }
-by_number (stop x) k bytes n plan out r after first is never not7 not13 p =
+by_number (Err x) k bytes n plan out r after first is not7 not13 p =
     let same : number_of r ≡ first = ap number_of p.0 ∙ is in
-    let some : first ≡ 0 → ⊥ = λ z. never x refl (is ∙ z) in
+    let some : first ≡ 0 → ⊥ = λ z. never_0 x (is ∙ z) in
     record {
       stopped = λ q. same;
       done = (λ d. absurd (some (sym same ∙ d)), λ q. absurd (some q.0));
@@ -120,7 +119,6 @@ module _ (key nonce ad m : List ℕ) (t : ℕ) (out : List ℕ) where
     planned_answers =
         let known = key_known key in
         by_number checks runs sealed (pairs_of (length m)) plan out r after (first_failing (seal_checks 3 0 known nonce ad m t out)) (seal_number 3 0 known nonce ad m t out)
-        (stop_is _ _ _ (seal_verdict 3 0 known (length nonce) t (length ad) (length m) (length out)))
         (λ h. seal_not_7 3 0 known nonce ad m t out (seal_number 3 0 known nonce ad m t out ∙ h)) never_13 p
 
     -- by an accepted plan, whoever made it, the promise of sealing is met
@@ -156,7 +154,7 @@ pub record PlanAnswers (m : ℕ) (out : List ℕ) (r : Answer) (after : List ℕ
   pub untouched : (number_of r ≡ 0 → ⊥) → (length_of r ≡ 0) × (after ≡ out)
   -- else done, with three bytes a pair, after which the buffer is as it was; they are accepted, and no two engines differ by more than
   -- one pair
-  pub done : m ≤ 16384 → 3 * pairs_of m ≤ length out → (r ≡ Done (3 * pairs_of m) 0) × (after ≡ lay 0 (take (3 * pairs_of m) after) out)
+  pub done : m ≤ 16384 → 3 * pairs_of m ≤ length out → (r ≡ done (3 * pairs_of m) 0) × (after ≡ lay 0 (take (3 * pairs_of m) after) out)
   pub accepted : m ≤ 16384 → 3 * pairs_of m ≤ length out → Accepted (pairs_of m) (take (3 * pairs_of m) after)
   pub even : m ≤ 16384 → 3 * pairs_of m ≤ length out → (a b : ℕ) → a < 4 → b < 4 → load a (take (3 * pairs_of m) after) ≤ load b (take (3 * pairs_of m) after) + 1
 
@@ -171,7 +169,7 @@ module _ (m : ℕ) (out : List ℕ) where
       go : (b b' : Bool) → leb m 16384 ≡ b → leb (3 * pairs_of m) (length out) ≡ b' → PlanAnswers m out r after
       go false b' e e' =
           let long = leb-false m 16384 e in
-          let is = plans_decided r Length after out p (too_long m out long) in
+          let is = plans_decided r (Err Length) after out p (too_long m out long) in
           let i : number_of r ≡ 5 = ap number_of is.0 in
           record {
             five = (λ h. long, λ h. i);
@@ -184,7 +182,7 @@ module _ (m : ℕ) (out : List ℕ) where
       go true false e e' =
           let short = leb-true m 16384 e in
           let none = leb-false (3 * pairs_of m) (length out) e' in
-          let is = plans_decided r Room after out p (no_room m out short none) in
+          let is = plans_decided r (Err Room) after out p (no_room m out short none) in
           let i : number_of r ≡ 6 = ap number_of is.0 in
           record {
             five = (λ h. absurd (omega arith), λ h. absurd (omega arith));
@@ -198,7 +196,7 @@ module _ (m : ℕ) (out : List ℕ) where
           let short = leb-true m 16384 e in
           let enough = leb-true (3 * pairs_of m) (length out) e' in
           let plan = plan_of (pairs_of m) in
-          let is = plans_decided r (Done (3 * pairs_of m) 0) after (lay 0 plan out) p (planned m out short (pairs_of m) refl enough (lay 0 plan out) refl) in
+          let is = plans_decided r (done (3 * pairs_of m) 0) after (lay 0 plan out) p (planned m out short (pairs_of m) refl enough (lay 0 plan out) refl) in
           let i : number_of r ≡ 0 = ap number_of is.0 in
           let front : take (3 * pairs_of m) after ≡ plan = ap (take (3 * pairs_of m)) is.1 ∙ take_at plan (drop (0 + length plan) out) (3 * pairs_of m) (length-plan_of (pairs_of m)) in
           record {

@@ -5,12 +5,12 @@ use mathlib.Core.List.{List}
 use Prim.Native.Nat.{ℕ, ◌+◌, ◌-◌}
 use native.Mathlib.Omega.{arith}
 use lib.ListN.{length}
+use Rattle.std.specs.Prelude.{Ok}
 use Rattle.mode.specs.Opening.{accepted, refused}
-use Rattle.link.specs.Answers.{number_of, length_of, answer_of}
-use Rattle.link.specs.Checks.{Check, pass, known_key, seal_check, open_check}
+use Rattle.link.specs.Answers.{Answer, number_of, length_of, answer_of}
+use Rattle.link.specs.Checks.{Check, known_key, seal_check, open_check}
 use Rattle.link.specs.Promises.{sealing, seal_runs, open_runs, SealsBy, Seals, OpensBy, Opens}
-use Rattle.link.specs.declared.answer.Answer.{Answer}
-use Rattle.link.proofs.Answers.{stands_for}
+use Rattle.link.proofs.Answers.{never_0, stands_for}
 use Rattle.link.proofs.Verdicts.{Verdict, passes, stops, seal_verdict, open_verdict}
 use Rattle.firmware.specs.Numbered.{Numbered}
 use Rattle.demands.proofs.Decided.{seals_decided, opens_decided}
@@ -44,18 +44,18 @@ module _ {Q : Type 0} {k : ℕ} (c : Check) (v : Verdict Q k c) (r : Answer) (a 
     where
       go : Verdict Q k c → length_of r ≡ k
       go (passes q e) = ap length_of (subst (λ (d : Check). SealsBy d j bytes out r a) e p).0
-      go (stops x y e) = absurd (y (sym (ap number_of (subst (λ (d : Check). SealsBy d j bytes out r a) e p).0) ∙ z))
+      go (stops x e) = absurd (never_0 x (sym (ap number_of (subst (λ (d : Check). SealsBy d j bytes out r a) e p).0) ∙ z))
 
   open_long : (j : ℕ) (seal : List ℕ → List ℕ) (s out : List ℕ) → OpensBy c j seal s out r a → number_of r ≡ 0 → length_of r ≡ k
   open_long j seal s out p z = go v
     where
-      opened : OpensBy (pass k) j seal s out r a → length_of r ≡ k
+      opened : OpensBy (Ok k) j seal s out r a → length_of r ≡ k
       opened (accepted m, q, h, w) = ap length_of h
       opened (refused, q, h, w) = absurd (let seven : number_of r ≡ 7 = ap number_of h in omega arith)
 
       go : Verdict Q k c → length_of r ≡ k
       go (passes q e) = opened (subst (λ (d : Check). OpensBy d j seal s out r a) e p)
-      go (stops x y e) = absurd (y (sym (ap number_of (subst (λ (d : Check). OpensBy d j seal s out r a) e p).0) ∙ z))
+      go (stops x e) = absurd (never_0 x (sym (ap number_of (subst (λ (d : Check). OpensBy d j seal s out r a) e p).0) ∙ z))
 
 -- ---- the two calls
 module _ (edition form : ℕ) (key nonce ad body : List ℕ) (t : ℕ) (out : List ℕ) where

@@ -6,7 +6,8 @@ use Prim.Native.Nat.{ℕ, ◌+◌, ◌-◌, ◌≤◌}
 use native.Mathlib.Omega.{arith}
 use lib.Dec.{eqb, leb}
 use borrow.Author.Tests.{eq-eqb, leb-true, le-leb}
-use Rattle.link.specs.Checks.{pass, last_form, call_check, seal_next, open_next}
+use Rattle.std.specs.Prelude.{Ok}
+use Rattle.link.specs.Checks.{last_form, call_check, seal_next, open_next}
 use Rattle.link.proofs.Verdicts as Verdicts
 use Rattle.link.proofs.Verdicts.{Called}
 use Rattle.demands.specs.Calls.{Named, Limits, OneOf}
@@ -47,8 +48,8 @@ module _ (edition form : ℕ) (known : Bool) (nonce t ad : ℕ) (is : known ≡ 
         data_most = f.most;
       }
 
-  pub seal_passes : (m o : ℕ) → m ≤ 16384 → m + t ≤ o → call_check edition form known nonce t ad (seal_next t m o) ≡ pass (m + t)
+  pub seal_passes : (m o : ℕ) → m ≤ 16384 → m + t ≤ o → call_check edition form known nonce t ad (seal_next t m o) ≡ Ok (m + t)
   seal_passes = Verdicts.seal_passes edition form known nonce t ad within
 
-  pub open_passes : (s o : ℕ) → t ≤ s → s ≤ 16384 + t → s - t ≤ o → call_check edition form known nonce t ad (open_next t s o) ≡ pass (s - t)
+  pub open_passes : (s o : ℕ) → t ≤ s → s ≤ 16384 + t → s - t ≤ o → call_check edition form known nonce t ad (open_next t s o) ≡ Ok (s - t)
   open_passes = Verdicts.open_passes edition form known nonce t ad within

@@ -9,6 +9,7 @@ use Prim.Native.Nat.{ℕ, ◌+◌, ◌-◌, ◌≤◌}
 use native.Mathlib.Nat.{zero-add}
 use native.Mathlib.Omega.{arith}
 use lib.ListN.{length, length-append}
+use Rattle.std.specs.Prelude.{Ok, Err}
 use Rattle.lists.specs.Lay.{lay}
 use Rattle.lists.specs.Zeros.{zeros}
 use Rattle.aes.specs.Expansion.{aes}
@@ -19,31 +20,31 @@ use Rattle.mode.specs.Sealing.{otr_from, from_inputs}
 use Rattle.mode.specs.Opening.{Opened, accepted, refused, Allowed}
 use Rattle.mode.specs.Undoing.{found_from_inputs}
 use Rattle.mode.proofs.Runs.{length-q_inputs}
-use Rattle.link.specs.Answers.{number_of, length_of, runs_of, answer_of}
-use Rattle.link.specs.Checks.{Check, pass, stop, known_key, known_rounds, call_check, seal_next, open_next, as_answer}
+use Rattle.link.specs.Answers.{Answer, done, number_of, length_of, runs_of, answer_of}
+use Rattle.link.specs.Checks.{Check, known_key, known_rounds, call_check, seal_next, open_next}
 use Rattle.link.specs.Prepared.{cipher_of, prepared_if, preparation}
 use Rattle.link.specs.Promises.{sealing, seal_runs, open_runs, SealsBy, Seals, opened_as, OpensBy, Opens, sealing_with, seal_runs_with, open_runs_with, SealsWith, OpensWith}
-use Rattle.link.specs.declared.answer.Answer.{Answer}
-use Rattle.link.specs.declared.answer.Answer.TheVariants.{Done, Key, Forged}
+use Rattle.link.specs.declared.answer.Refusal.{Refusal}
+use Rattle.link.specs.declared.answer.Refusal.TheVariants.{Key, Forged}
 use Rattle.link.specs.declared.prepared.Prepared.{Prepared}
-use Rattle.link.proofs.Answers.{Answered, done, forged, planned, refusal, answered, stands_for, parts, no_runs}
+use Rattle.link.proofs.Answers.{never_0, Answered, finished, forged, planned, refusal, answered, stands_for, parts, no_runs}
 use Rattle.link.proofs.Verdicts.{Verdict, sure, SealFits, OpenFits, seal_verdict, open_verdict}
 use Rattle.link.proofs.Entries.{rounds_known_lem, under_record}
 use Rattle.demands.specs.Calls.{key_known, OneOf}
 use Rattle.demands.proofs.Decided.{seals_decided, opens_decided}
-use Rattle.demands.proofs.Demand1.{stop_is, seal_not_7, open_not_7}
+use Rattle.demands.proofs.Demand1.{stop_number, seal_not_7, open_not_7}
 use Rattle.demands.proofs.Limits.{known}
 
 -- ---- what preparing gives
 -- a key of 16, 24 or 32 bytes: done after one run, with its round count and round keys, those not used zero, and E(zero)
 pub prepares : (key : List ℕ) → OneOf 16 24 32 (length key)
-    → preparation key ≡ record { answer = Done 0 1; key = record { rounds = (expanded key).rounds; words = (expanded key).words; zero = aes key (zeros 16) } }
+    → preparation key ≡ record { answer = done 0 1; key = record { rounds = (expanded key).rounds; words = (expanded key).words; zero = aes key (zeros 16) } }
 unfolding preparation
 prepares key keys = ap (λ (b : Bool). prepared_if b key) (known 16 24 32 (length key) keys)
 
 -- a key of another length: 1 after no run, with a record of zeros
 pub refuses : (key : List ℕ) → key_known key ≡ false
-    → preparation key ≡ record { answer = Key; key = record { rounds = 0; words = zeros 240; zero = zeros 16 } }
+    → preparation key ≡ record { answer = Err Key; key = record { rounds = 0; words = zeros 240; zero = zeros 16 } }
 unfolding preparation
 refuses key h = ap (λ (b : Bool). prepared_if b key) h
 
@@ -77,7 +78,7 @@ module _ (z : ℕ) where
   same_number r = go (answered r)
     where
       go : Answered r → (number_of (more r) ≡ number_of r) × (length_of (more r) ≡ length_of r)
-      go (done n k e) = (ap (λ (x : Answer). number_of (more x)) e ∙ sym (ap number_of e), ap (λ (x : Answer). length_of (more x)) e ∙ sym (ap length_of e))
+      go (finished n k e) = (ap (λ (x : Answer). number_of (more x)) e ∙ sym (ap number_of e), ap (λ (x : Answer). length_of (more x)) e ∙ sym (ap length_of e))
       go (forged k e) = (ap (λ (x : Answer). number_of (more x)) e ∙ sym (ap number_of e), ap (λ (x : Answer). length_of (more x)) e ∙ sym (ap length_of e))
       go (planned e) = (ap (λ (x : Answer). number_of (more x)) e ∙ sym (ap number_of e), ap (λ (x : Answer). length_of (more x)) e ∙ sym (ap length_of e))
       go (refusal most none runs stands) =
@@ -95,27 +96,27 @@ module _ (z : ℕ) where
   runs_more r (inl h) = ap (λ (i : ℕ). runs_of (answer_of i (length_of r) (z + runs_of r))) h
   runs_more r (inr h) = ap (λ (i : ℕ). runs_of (answer_of i (length_of r) (z + runs_of r))) h
 
-  more_seals : (c : Check) (k k' : ℕ) (bytes bytes' out : List ℕ) (r : Answer) (after : List ℕ) → ((x : Answer) → c ≡ stop x → more x ≡ x)
-      → ((n : ℕ) → c ≡ pass n → (z + k ≡ k') × (bytes ≡ bytes')) → SealsBy c k bytes out r after → SealsBy c k' bytes' out (more r) after
-  more_seals (pass n) k k' bytes bytes' out r after at-stop at-pass p =
+  more_seals : (c : Check) (k k' : ℕ) (bytes bytes' out : List ℕ) (r : Answer) (after : List ℕ) → ((x : Refusal) → c ≡ Err x → more (Err x) ≡ Err x)
+      → ((n : ℕ) → c ≡ Ok n → (z + k ≡ k') × (bytes ≡ bytes')) → SealsBy c k bytes out r after → SealsBy c k' bytes' out (more r) after
+  more_seals (Ok n) k k' bytes bytes' out r after at-stop at-pass p =
       let same = at-pass n refl in
-      (ap more p.0 ∙ ap (Done n) same.0, p.1 ∙ ap (λ (b : List ℕ). lay 0 b out) same.1)
-  more_seals (stop x) k k' bytes bytes' out r after at-stop at-pass p = (ap more p.0 ∙ at-stop x refl, p.1)
+      (ap more p.0 ∙ ap (done n) same.0, p.1 ∙ ap (λ (b : List ℕ). lay 0 b out) same.1)
+  more_seals (Err x) k k' bytes bytes' out r after at-stop at-pass p = (ap more p.0 ∙ at-stop x refl, p.1)
 
   opened_more : (n k k' : ℕ) (o : Opened) → z + k ≡ k' → more (opened_as n k o) ≡ opened_as n k' o
-  opened_more n k k' (accepted m) h = ap (Done n) h
-  opened_more n k k' refused h = ap Forged h
+  opened_more n k k' (accepted m) h = ap (done n) h
+  opened_more n k k' refused h = ap (λ (i : ℕ). Err (Forged i)) h
 
-  more_opens : (c : Check) (k k' : ℕ) (seal seal' : List ℕ → List ℕ) (s out : List ℕ) (r : Answer) (after : List ℕ) → ((x : Answer) → c ≡ stop x → more x ≡ x)
-      → ((n : ℕ) → c ≡ pass n → (z + k ≡ k') × (seal ≡ seal')) → OpensBy c k seal s out r after → OpensBy c k' seal' s out (more r) after
-  more_opens (pass n) k k' seal seal' s out r after at-stop at-pass (o, a, is, b) =
+  more_opens : (c : Check) (k k' : ℕ) (seal seal' : List ℕ → List ℕ) (s out : List ℕ) (r : Answer) (after : List ℕ) → ((x : Refusal) → c ≡ Err x → more (Err x) ≡ Err x)
+      → ((n : ℕ) → c ≡ Ok n → (z + k ≡ k') × (seal ≡ seal')) → OpensBy c k seal s out r after → OpensBy c k' seal' s out (more r) after
+  more_opens (Ok n) k k' seal seal' s out r after at-stop at-pass (o, a, is, b) =
       let same = at-pass n refl in
       (o, subst (λ (f : List ℕ → List ℕ). Allowed f s o) same.1 a, ap more is ∙ opened_more n k k' o same.0, b)
-  more_opens (stop x) k k' seal seal' s out r after at-stop at-pass p = (ap more p.0 ∙ at-stop x refl, p.1)
+  more_opens (Err x) k k' seal seal' s out r after at-stop at-pass p = (ap more p.0 ∙ at-stop x refl, p.1)
 
 -- what checks stop with ran no cipher
-stopped : {P : Type 0} {n : ℕ} (c : Check) → Verdict P n c → (z : ℕ) → (number_of (as_answer c) ≡ 7 → ⊥) → (x : Answer) → c ≡ stop x → more z x ≡ x
-stopped {P} {n} c v z not7 x e = stays z x (stop_is P n c v x e) (λ h. not7 (ap (λ (d : Check). number_of (as_answer d)) e ∙ h))
+stopped : (c : Check) (z : ℕ) → (stop_number c ≡ 7 → ⊥) → (x : Refusal) → c ≡ Err x → more z (Err x) ≡ Err x
+stopped c z not7 x e = stays z (Err x) (never_0 x) (λ h. not7 (ap stop_number e ∙ h))
 
 -- the zero block's run, which a raw key's call has where there is data; and with it the runs that it has with its first mask at hand
 abbrev pub zero_run : List ℕ → ℕ
@@ -130,8 +131,8 @@ module _ (edition form : ℕ) (key nonce ad : List ℕ) (t : ℕ) (out : List �
   unfolding Seals SealsWith
   seals_as_key m r after h =
       more_seals (zero_run ad) c (seal_runs_with edition form (prepared key) nonce ad t m) (seal_runs edition form key nonce ad t m) (sealing_with edition form (prepared key) nonce ad t m) (sealing edition form key nonce ad t m) out r after
-      (stopped c verdict (zero_run ad) (seal_not_7 edition form (known_key (length key)) nonce ad m t out))
-      (λ n e. let is = (sure verdict n e).0.known in (
+      (stopped c (zero_run ad) (seal_not_7 edition form (known_key (length key)) nonce ad m t out))
+      (λ n e. let is = (sure verdict n e).0.0.known in (
         and_zero ad _ (from_inputs (aes key) (aes key (zeros 16)) (edition_of edition form) nonce ad t m) (under_key key is (λ E q. length (from_inputs E q (edition_of edition form) nonce ad t m))),
         under_key key is (λ E q. otr_from E q (edition_of edition form) nonce ad t m),
       ))
@@ -148,8 +149,8 @@ module _ (edition form : ℕ) (key nonce ad : List ℕ) (t : ℕ) (out : List �
   unfolding Opens OpensWith
   opens_as_key s r after h =
       more_opens (zero_run ad) c (open_runs_with edition form (prepared key) nonce ad t s) (open_runs edition form key nonce ad t s) (sealing_with edition form (prepared key) nonce ad t) (sealing edition form key nonce ad t) s out r after
-      (stopped c verdict (zero_run ad) (open_not_7 edition form (known_key (length key)) nonce ad s t out))
-      (λ n e. let is = (sure verdict n e).0.known in (
+      (stopped c (zero_run ad) (open_not_7 edition form (known_key (length key)) nonce ad s t out))
+      (λ n e. let is = (sure verdict n e).0.0.known in (
         and_zero ad _ (found_from_inputs (aes key) (aes key (zeros 16)) (edition_of edition form) nonce ad t s) (under_key key is (λ E q. length (found_from_inputs E q (edition_of edition form) nonce ad t s))),
         under_key key is (λ E q. otr_from E q (edition_of edition form) nonce ad t),
       ))

@@ -17,10 +17,9 @@ use Rattle.mode.specs.Sealing.{data_tag, otr_from, otr}
 use Rattle.mode.proofs.TagLength.{first_cut}
 use Rattle.mode.proofs.Otr.{length-otr}
 use Rattle.pairs.proofs.Cipher.{is_cipher, length-ta}
+use Rattle.link.specs.Answers.{Answer, done}
 use Rattle.link.specs.Prepared.{cipher_of}
 use Rattle.link.specs.Promises.{open_runs, Seals, Opens, open_runs_with, SealsWith, OpensWith}
-use Rattle.link.specs.declared.answer.Answer.{Answer}
-use Rattle.link.specs.declared.answer.Answer.TheVariants.{Done}
 use Rattle.link.specs.declared.prepared.Prepared.{Prepared}
 use Rattle.link.proofs.Entries.{aes_cipher, aes_ta}
 use Rattle.demands.specs.Calls.{Limits, OneOf}
@@ -59,7 +58,7 @@ module _ (nonce ad m : List ℕ) (t : ℕ) (limits : Limits 1 0 (length nonce) t
     cut_is = sym (first_cut (aes key) (aes_cipher key) (aes key (zeros 16)) nonce ad (aes_ta key V1 ad) limits.nonces.1 t limits.tags.1 m)
 
     pub opens_cut : (out : List ℕ) → length m ≤ length out → (r : Answer) (after : List ℕ) → Opens 1 0 key nonce ad (take (length m + t) (otr (aes key) V1 nonce ad 16 m)) t out r after
-        → (r ≡ Done (length m) (open_runs 1 0 key nonce ad t (otr (aes key) V1 nonce ad t m))) × (after ≡ lay 0 m out)
+        → (r ≡ done (length m) (open_runs 1 0 key nonce ad t (otr (aes key) V1 nonce ad t m))) × (after ≡ lay 0 m out)
     opens_cut out room r after p =
         round_trip 1 0 key nonce ad m t keys limits short out room r after (subst (λ (s : List ℕ). Opens 1 0 key nonce ad s t out r after) cut_is p)
 
@@ -80,6 +79,6 @@ module _ (nonce ad m : List ℕ) (t : ℕ) (limits : Limits 1 0 (length nonce) t
 
     pub opens_with_cut : (out : List ℕ) → length m ≤ length out → (r : Answer) (after : List ℕ)
         → OpensWith 1 0 p nonce ad (take (length m + t) (otr_from (cipher_of p) p.zero V1 nonce ad 16 m)) t out r after
-        → (r ≡ Done (length m) (open_runs_with 1 0 p nonce ad t (otr_from (cipher_of p) p.zero V1 nonce ad t m))) × (after ≡ lay 0 m out)
+        → (r ≡ done (length m) (open_runs_with 1 0 p nonce ad t (otr_from (cipher_of p) p.zero V1 nonce ad t m))) × (after ≡ lay 0 m out)
     opens_with_cut out room r after h =
         round_trip_with 1 0 p nonce ad m t rounds limits short out room r after (subst (λ (s : List ℕ). OpensWith 1 0 p nonce ad s t out r after) with_cut_is h)

@@ -11,6 +11,7 @@ use native.Mathlib.Omega.{arith}
 use lib.Dec.{eqb, leb}
 use lib.ListN.{length}
 use borrow.Author.Tests.{le-leb}
+use Rattle.std.specs.Prelude.{Ok, Err}
 use Rattle.lists.specs.Lay.{lay}
 use Rattle.lists.specs.Zeros.{zeros}
 use Rattle.aes.specs.Expansion.{aes}
@@ -24,12 +25,11 @@ use Rattle.mode.specs.Opening.{Opened, accepted, refused, Allowed}
 use Rattle.mode.proofs.Data.{ta_was, ta_as_it_was}
 use Rattle.mode.proofs.Format.{format_was, as_it_was}
 use Rattle.passes.specs.Shown.{shown}
-use Rattle.link.specs.Answers.{number_of, length_of, runs_of, answer_of}
-use Rattle.link.specs.Checks.{Check, pass, stop, from_to, unless, known_key, known_rounds, call_check, seal_next, seal_check, open_next, open_check}
+use Rattle.link.specs.Answers.{Answer, done, number_of, length_of, runs_of, answer_of}
+use Rattle.link.specs.Checks.{Check, from_to, unless, known_key, known_rounds, call_check, seal_next, seal_check, open_next, open_check}
 use Rattle.link.specs.Prepared.{cipher_of}
 use Rattle.link.specs.Promises.{sealing, seal_runs, open_runs, SealsBy, Seals, opened_as, OpensBy, Opens, seal_runs_with, open_runs_with, SealsWith, OpensWith}
-use Rattle.link.specs.declared.answer.Answer.{Answer}
-use Rattle.link.specs.declared.answer.Answer.TheVariants.{Done, Key, Nonce, Tag, Data, Form}
+use Rattle.link.specs.declared.answer.Refusal.TheVariants.{Key, Nonce, Tag, Data, Form}
 use Rattle.link.specs.declared.prepared.Prepared.{Prepared}
 use Rattle.link.proofs.Answers.{parts}
 
@@ -144,25 +144,25 @@ same_parts r q i n k = parts r ∙ ap₂ (λ (a b : ℕ). answer_of a b (runs_of
 
 module _ (out : List ℕ) (i l : ℕ) (after : List ℕ) where
   abbrev pub SealsUncounted : Check → List ℕ → Type 0
-  SealsUncounted (pass n) bytes = (i ≡ 0) × (l ≡ n) × (after ≡ lay 0 bytes out)
-  SealsUncounted (stop c) bytes = (i ≡ number_of c) × (l ≡ length_of c) × (after ≡ out)
+  SealsUncounted (Ok n) bytes = (i ≡ 0) × (l ≡ n) × (after ≡ lay 0 bytes out)
+  SealsUncounted (Err c) bytes = (i ≡ number_of (Err c)) × (l ≡ length_of (Err c)) × (after ≡ out)
 
   abbrev pub OpensUncounted : Check → (List ℕ → List ℕ) → List ℕ → Type 0
-  OpensUncounted (pass n) seal s = (o : Opened) × Allowed seal s o × ((i ≡ number_of (opened_as n 0 o)) × (l ≡ length_of (opened_as n 0 o))) × (after ≡ shown o n out)
-  OpensUncounted (stop c) seal s = (i ≡ number_of c) × (l ≡ length_of c) × (after ≡ out)
+  OpensUncounted (Ok n) seal s = (o : Opened) × Allowed seal s o × ((i ≡ number_of (opened_as n 0 o)) × (l ≡ length_of (opened_as n 0 o))) × (after ≡ shown o n out)
+  OpensUncounted (Err c) seal s = (i ≡ number_of (Err c)) × (l ≡ length_of (Err c)) × (after ≡ out)
 
 -- what the runs are where the checks come to c
 abbrev pub runs_at : Check → ℕ → ℕ
-runs_at (pass n) k = k
-runs_at (stop c) k = runs_of c
+runs_at (Ok n) k = k
+runs_at (Err c) k = runs_of (Err c)
 
 module _ (k : ℕ) (out : List ℕ) (r : Answer) (after : List ℕ) where
   seals_split : (c : Check) (bytes : List ℕ)
       → SealsBy c k bytes out r after ↔ (SealsUncounted out (number_of r) (length_of r) after c bytes × (runs_of r ≡ runs_at c k))
-  seals_split (pass n) bytes =
-      (λ p. ((ap number_of p.0, ap length_of p.0, p.1), ap runs_of p.0), λ (q, h). (same_parts r (Done n k) q.0 q.1 h, q.2))
-  seals_split (stop c) bytes =
-      (λ p. ((ap number_of p.0, ap length_of p.0, p.1), ap runs_of p.0), λ (q, h). (same_parts r c q.0 q.1 h, q.2))
+  seals_split (Ok n) bytes =
+      (λ p. ((ap number_of p.0, ap length_of p.0, p.1), ap runs_of p.0), λ (q, h). (same_parts r (done n k) q.0 q.1 h, q.2))
+  seals_split (Err c) bytes =
+      (λ p. ((ap number_of p.0, ap length_of p.0, p.1), ap runs_of p.0), λ (q, h). (same_parts r (Err c) q.0 q.1 h, q.2))
 
   opened_parts : (n : ℕ) (o : Opened)
       → (number_of (opened_as n k o) ≡ number_of (opened_as n 0 o)) × (length_of (opened_as n k o) ≡ length_of (opened_as n 0 o)) × (runs_of (opened_as n k o) ≡ k)
@@ -171,7 +171,7 @@ module _ (k : ℕ) (out : List ℕ) (r : Answer) (after : List ℕ) where
 
   opens_split : (c : Check) (seal : List ℕ → List ℕ) (s : List ℕ)
       → OpensBy c k seal s out r after ↔ (OpensUncounted out (number_of r) (length_of r) after c seal s × (runs_of r ≡ runs_at c k))
-  opens_split (pass n) seal s = (
+  opens_split (Ok n) seal s = (
     λ (o, q, h, e).
         let w = opened_parts n o in
         ((o, q, (ap number_of h ∙ w.0, ap length_of h ∙ w.1), e), ap runs_of h ∙ w.2),
@@ -179,8 +179,8 @@ module _ (k : ℕ) (out : List ℕ) (r : Answer) (after : List ℕ) where
         let w = opened_parts n o in
         (o, q, same_parts r (opened_as n k o) (p.0 ∙ sym w.0) (p.1 ∙ sym w.1) (h ∙ sym w.2), e),
   )
-  opens_split (stop c) seal s =
-      (λ p. ((ap number_of p.0, ap length_of p.0, p.1), ap runs_of p.0), λ (q, h). (same_parts r c q.0 q.1 h, q.2))
+  opens_split (Err c) seal s =
+      (λ p. ((ap number_of p.0, ap length_of p.0, p.1), ap runs_of p.0), λ (q, h). (same_parts r (Err c) q.0 q.1 h, q.2))
 
 module _ (edition form : ℕ) (key nonce ad : List ℕ) (t : ℕ) (out : List ℕ) (r : Answer) (after : List ℕ) where
   pub seals_uncounted : (m : List ℕ)

@@ -1,8 +1,7 @@
 -- Document 02, wish 12, about a promise: what an early part may reveal.
 use Rattle.std.specs.Prelude.{◌≡◌, ◌↔◌, List, ℕ}
 use Rattle.mode.specs.EarlyPart.{early, Longer}
-use Rattle.link.specs.Answers.{number_of}
-use Rattle.link.specs.declared.answer.Answer.{Answer}
+use Rattle.link.specs.Answers.{Answer, number_of}
 
 -- `Sealed ad m out r after` is what the promise allows for the associated data ad and the message m, with all else held fast: the answer r
 -- and the buffer after, from the buffer out. Of two messages, each longer than 32·j bytes, both sealed with answer 0, what comes out

@@ -180,7 +180,7 @@ fn seal_raw(
     out: &mut [u8],
     calls: usize,
 ) -> link::Answer {
-    let mut answer = link::Answer::Done { length: 0, runs: 0 };
+    let mut answer = Ok(link::Done { length: 0, runs: 0 });
     for _call in 0..calls {
         answer = link::seal(EDITION, PARALLEL, key, nonce, data, message, TAG_BYTES, out);
     }

@@ -1,7 +1,7 @@
 // Sealing by our planner's plan, and the masks of such a sealing alone (document 02, wish 13).
 ghost use Rattle.std.specs.Prelude.{◌≤◌, length};
 
-use link::Answer;
+use link::{Answer, Done};
 
 // Three bytes for each of at most 511 pairs.
 const MOST_PLAN: usize = 1533;
@@ -40,7 +40,7 @@ pub fn seal(
 pub fn masks(u: &[u8], message: usize, out: &mut [u8], calls: usize) -> Answer
     requires { 16 ≤ length u.now }
 {
-    let answer = Answer::Done { length: 0, runs: 0 };
+    let answer = Ok(Done { length: 0, runs: 0 });
     if out.len() < crate::TAG_BYTES || out.len() - crate::TAG_BYTES < message {
         return answer;
     }

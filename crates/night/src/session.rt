@@ -1,7 +1,7 @@
 // Sealing in parts: sessions with a sealer.
 ghost use Rattle.std.specs.Prelude.{◌<◌, ◌≤◌};
 
-use link::Answer;
+use link::{Answer, Done};
 use sealer::Step;
 
 // A turn of the loop makes a session and nothing else.
@@ -15,7 +15,7 @@ pub fn seal(
     out: &mut [u8],
     calls: usize,
 ) -> Answer {
-    let mut answer = Answer::Done { length: 0, runs: 0 };
+    let mut answer = Ok(Done { length: 0, runs: 0 });
     for _call in 0..calls {
         let begun = sealer::begin(crate::PARALLEL, key, nonce, data, crate::TAG_BYTES);
         let fed = feed_parts(begun, message, part, out);
@@ -104,8 +104,8 @@ fn plus(before: Answer, next: Answer) -> Answer {
     if link::number(next) != 0 {
         return next;
     }
-    Answer::Done {
+    Ok(Done {
         length: link::length(before).wrapping_add(link::length(next)),
         runs: link::runs(before).wrapping_add(link::runs(next)),
-    }
+    })
 }

@@ -6,13 +6,14 @@ use Prim.Native.Nat.{ℕ, ◌+◌, ◌*◌}
 use native.Mathlib.Omega.{arith}
 use lib.Dec.{leb}
 use lib.ListN.{length}
+use Rattle.std.specs.Prelude.{Ok, Err}
 use Rattle.lists.specs.Lay.{lay}
 use Rattle.mode.specs.Message.{pairs_of}
 use Rattle.mode.specs.Feeding.{keeps, fed_bytes, fed_inputs, end_bytes, end_inputs}
-use Rattle.link.specs.Answers.{number_of, length_of, runs_of}
-use Rattle.link.specs.Checks.{Check, pass, stop, unless}
-use Rattle.link.specs.declared.answer.Answer.{Answer}
-use Rattle.link.specs.declared.answer.Answer.TheVariants.{Done, Length, Room, Ended}
+use Rattle.link.specs.Answers.{Answer, done, number_of, length_of, runs_of}
+use Rattle.link.specs.Checks.{Check, unless}
+use Rattle.link.specs.declared.answer.Refusal.{Refusal}
+use Rattle.link.specs.declared.answer.Refusal.TheVariants.{Length, Room, Ended}
 use Rattle.sealer.specs.declared.Sealer.{Sealer}
 use Rattle.sealer.specs.declared.Step.{Step}
 use Rattle.sealer.specs.Sealers.{going_on, standing, fed_by, ended, feed_check, end_check}
@@ -20,28 +21,28 @@ use Rattle.sealer.specs.Promises.{StepBy, Feeds, Ends}
 use Rattle.sessions.specs.Sessions.{Call, feed, end, buffer, Kept}
 
 -- a refusal: it is not done, has no length and no runs
-pub record Refusal (r : Answer) : Type 0 where
+pub record IsRefusal (r : Answer) : Type 0 where
   pub number : number_of r ≡ 0 → ⊥
   pub long : length_of r ≡ 0
   pub runs : runs_of r ≡ 0
 
 -- checks that stop at refusals alone
 abbrev Plain : Check → Type 0
-Plain (pass n) = Unit
-Plain (stop r) = Refusal r
+Plain (Ok n) = Unit
+Plain (Err r) = IsRefusal (Err r)
 
-plain_unless : (b : Bool) (r : Answer) (c : Check) → Refusal r → Plain c → Plain (unless b r c)
+plain_unless : (b : Bool) (r : Refusal) (c : Check) → IsRefusal (Err r) → Plain c → Plain (unless b r c)
 plain_unless true r c h p = p
 plain_unless false r c h p = h
 
 -- as those of feeding and ending do
-pub is_ended : Refusal Ended
+pub is_ended : IsRefusal (Err Ended)
 is_ended = record { number = λ z. omega arith; long = refl; runs = refl }
 
-no_room : Refusal Room
+no_room : IsRefusal (Err Room)
 no_room = record { number = λ z. omega arith; long = refl; runs = refl }
 
-too_long : Refusal Length
+too_long : IsRefusal (Err Length)
 too_long = record { number = λ z. omega arith; long = refl; runs = refl }
 
 module _ (rounds t fed : ℕ) where
@@ -57,21 +58,21 @@ module _ (rounds t fed : ℕ) where
 
 -- ---- a step, by whether it was accepted
 pub record Unchanged (s : Sealer) (out : List ℕ) (r : Step) (after : List ℕ) : Type 0 where
-  pub refusal : Refusal r.answer
+  pub refusal : IsRefusal r.answer
   pub sealer : r.sealer ≡ s
   pub buffer : after ≡ out
 
 pub data Outcome (c : Check) (k : ℕ) (bytes : List ℕ) (next s : Sealer) (out : List ℕ) (r : Step) (after : List ℕ) : Type 0 where
-  accepted : (n : ℕ) → c ≡ pass n → r ≡ record { answer = Done n k; sealer = next } → after ≡ lay 0 bytes out → Outcome c k bytes next s out r after
+  accepted : (n : ℕ) → c ≡ Ok n → r ≡ record { answer = done n k; sealer = next } → after ≡ lay 0 bytes out → Outcome c k bytes next s out r after
   refused : Unchanged s out r after → Outcome c k bytes next s out r after
 
 pub outcome : (c : Check) → Plain c → (k : ℕ) (bytes : List ℕ) (next s : Sealer) (out : List ℕ) (r : Step) (after : List ℕ)
     → StepBy c k bytes next s out r after → Outcome c k bytes next s out r after
-outcome (pass n) p k bytes next s out r after h = accepted n refl h.0 h.1
-outcome (stop x) p k bytes next s out r after h =
+outcome (Ok n) p k bytes next s out r after h = accepted n refl h.0 h.1
+outcome (Err x) p k bytes next s out r after h =
     refused
     (record {
-      refusal = subst Refusal (sym (ap (λ (y : Step). y.answer) h.0)) p;
+      refusal = subst IsRefusal (sym (ap (λ (y : Step). y.answer) h.0)) p;
       sealer = ap (λ (y : Step). y.sealer) h.0;
       buffer = h.1;
     })
@@ -82,7 +83,7 @@ not_accepted (accepted n come is laid) z = absurd (z (ap (λ (y : Step). number_
 not_accepted (refused u) z = u
 
 by_ended : (b : Bool) → b ≡ false → (c : Check) (k : ℕ) (bytes : List ℕ) (next s : Sealer) (out : List ℕ) (r : Step) (after : List ℕ)
-    → StepBy (unless b Ended c) k bytes next s out r after → (r ≡ record { answer = Ended; sealer = s }) × (after ≡ out)
+    → StepBy (unless b Ended c) k bytes next s out r after → (r ≡ record { answer = Err Ended; sealer = s }) × (after ≡ out)
 by_ended b over c k bytes next s out r after h = subst (λ (a : Bool). StepBy (unless a Ended c) k bytes next s out r after) over h
 
 module _ (C : ℕ → List ℕ → List ℕ → List ℕ) (s : Sealer) where
@@ -108,7 +109,7 @@ module _ (C : ℕ → List ℕ → List ℕ → List ℕ) (s : Sealer) where
 
   -- a sealer that has ended stays ended: 9, whatever the call
   pub stays_ended : going_on s.rounds s.tag s.fed ≡ false → (c : Call) (r : Step) (after : List ℕ) → Kept C s c r after
-      → (r ≡ record { answer = Ended; sealer = s }) × (after ≡ buffer c)
+      → (r ≡ record { answer = Err Ended; sealer = s }) × (after ≡ buffer c)
   unfolding Feeds feed_check Ends end_check
   stays_ended over (feed x out) r after h =
       by_ended (going_on s.rounds s.tag s.fed) over _ (length (fed_inputs E (standing s) x)) (fed_bytes E (standing s) x) (fed_by s x) s out r after h

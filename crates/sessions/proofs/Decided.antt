@@ -7,10 +7,11 @@ use mathlib.Core.List.{List}
 use Prim.Native.Nat.{ℕ, ◌+◌, ◌*◌, ◌≤◌}
 use lib.ListN.{length}
 use borrow.Author.Tests.{le-leb}
+use Rattle.std.specs.Prelude.{Ok, Err}
 use Rattle.mode.specs.Message.{pairs_of}
 use Rattle.mode.specs.Feeding.{keeps, fed_bytes, fed_inputs, end_bytes, end_inputs}
 use Rattle.link.specs.Answers.{number_of}
-use Rattle.link.specs.Checks.{Check, pass, stop}
+use Rattle.link.specs.Checks.{Check}
 use Rattle.sealer.specs.declared.Sealer.{Sealer}
 use Rattle.sealer.specs.declared.Step.{Step}
 use Rattle.sealer.specs.Sealers.{going_on, standing, fed_by, ended, feed_check, end_check}
@@ -19,8 +20,8 @@ use Rattle.sessions.specs.Sessions.{Call, feed, end, Kept}
 
 by_step : (c : Check) (k : ℕ) (bytes : List ℕ) (next s : Sealer) (out : List ℕ) (r r' : Step) (a a' : List ℕ)
     → StepBy c k bytes next s out r a → StepBy c k bytes next s out r' a' → (r ≡ r') × (a ≡ a')
-by_step (pass n) k bytes next s out r r' a a' p q = (p.0 ∙ sym q.0, p.1 ∙ sym q.1)
-by_step (stop x) k bytes next s out r r' a a' p q = (p.0 ∙ sym q.0, p.1 ∙ sym q.1)
+by_step (Ok n) k bytes next s out r r' a a' p q = (p.0 ∙ sym q.0, p.1 ∙ sym q.1)
+by_step (Err x) k bytes next s out r r' a a' p q = (p.0 ∙ sym q.0, p.1 ∙ sym q.1)
 
 module _ (C : ℕ → List ℕ → List ℕ → List ℕ) (s : Sealer) where
   abbrev E : List ℕ → List ℕ
@@ -33,7 +34,7 @@ module _ (C : ℕ → List ℕ → List ℕ → List ℕ) (s : Sealer) where
   decided (end out) =
       by_step (end_check s.rounds s.tag s.fed (length out)) (length (end_inputs E (standing s))) (end_bytes E s.added s.tag (standing s)) ended s out
 
-  done : (c : Check) (n : ℕ) → c ≡ pass n → (k : ℕ) (bytes : List ℕ) (next : Sealer) (out : List ℕ) (r : Step) (after : List ℕ) → StepBy c k bytes next s out r after → number_of r.answer ≡ 0
+  done : (c : Check) (n : ℕ) → c ≡ Ok n → (k : ℕ) (bytes : List ℕ) (next : Sealer) (out : List ℕ) (r : Step) (after : List ℕ) → StepBy c k bytes next s out r after → number_of r.answer ≡ 0
   done c n come k bytes next out r after h =
       ap (λ (y : Step). number_of y.answer) (subst (λ (d : Check). StepBy d k bytes next s out r after) come h).0
 

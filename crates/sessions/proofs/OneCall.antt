@@ -14,10 +14,9 @@ use Rattle.mode.specs.declared.edition.Edition.TheVariants.{V3}
 use Rattle.mode.specs.Sealing.{otr, otr_inputs}
 use Rattle.mode.proofs.Otr.{length-otr}
 use Rattle.pairs.proofs.Cipher.{is_cipher}
-use Rattle.link.specs.Answers.{number_of, length_of, runs_of}
+use Rattle.link.specs.Answers.{Answer, number_of, length_of, runs_of}
 use Rattle.link.specs.Checks.{known_key}
 use Rattle.link.specs.Promises.{sealing, seal_runs, Seals}
-use Rattle.link.specs.declared.answer.Answer.{Answer}
 use Rattle.link.proofs.Verdicts.{sealing_done, seal_verdict}
 use Rattle.link.proofs.Entries.{cipher_is, aes_cipher, aes_ta}
 use Rattle.sealer.specs.declared.Sealer.{Sealer}

@@ -11,6 +11,7 @@ use lib.Dec.{eqb}
 use lib.ListN.{length, take, drop, length-append, length-drop}
 use lib.Seq.{take_at}
 use borrow.Author.Tests.{le-leb, ne_eqb}
+use Rattle.std.specs.Prelude.{Result, Ok}
 use Rattle.lists.specs.Lay.{lay}
 use Rattle.lists.specs.Zeros.{zeros}
 use Rattle.lists.proofs.Zeros.{length-zeros}
@@ -29,10 +30,11 @@ use Rattle.mode.proofs.Data.{length-data_tag}
 use Rattle.mode.proofs.Otr.{otr-masks, length-otr}
 use Rattle.mode.proofs.EarlyPart.{early_is}
 use Rattle.mode.proofs.Feeding.{reached, fed_joined, fed_inputs_joined, end_joined, end_inputs_joined, count_fed}
-use Rattle.link.specs.Answers.{number_of, length_of, runs_of}
-use Rattle.link.specs.Checks.{Check, pass, stop, known_key, call_check}
-use Rattle.link.specs.declared.answer.Answer.TheVariants.{Done}
-use Rattle.link.proofs.Verdicts.{Verdict, passes, stops, Called, call_verdict, pass_or_stop, sure}
+use Rattle.link.specs.Answers.{done, number_of, length_of, runs_of}
+use Rattle.link.specs.Checks.{Check, known_key, call_check}
+use Rattle.link.specs.declared.answer.Refusal.{Refusal}
+use Rattle.link.proofs.Answers.{never_0}
+use Rattle.link.proofs.Verdicts.{Verdict, passes, stops, Called, call_verdict, sure}
 use Rattle.link.proofs.Entries.{rounds_known_lem}
 use Rattle.sealer.specs.declared.Sealer.{Sealer}
 use Rattle.sealer.specs.declared.Step.{Step}
@@ -40,7 +42,7 @@ use Rattle.sealer.specs.Sealers.{going_on, standing, fed_by, ended, feed_check, 
 use Rattle.sealer.specs.Promises.{keyed, begun_with, begin_runs, begin_by, beginning, Feeds, Ends}
 use Rattle.sealer.proofs.Verdicts.{feed_verdict, end_verdict}
 use Rattle.sessions.specs.Sessions.{out_after, Call, feed, end, buffer, Kept, fed_if, taken_in, Session, none, call, Came, goes_on, has_ended}
-use Rattle.sessions.proofs.Checked.{Refusal, is_ended, Unchanged, Outcome, accepted, refused, feed_outcome, end_outcome, stays_ended}
+use Rattle.sessions.proofs.Checked.{IsRefusal, is_ended, Unchanged, Outcome, accepted, refused, feed_outcome, end_outcome, stays_ended}
 use Rattle.sessions.proofs.Reached.{sealer_at, sealer_none, sealer_stands, sealer_fed}
 
 -- the client's rule is the mode's number of pairs
@@ -53,14 +55,10 @@ front_taken : (bytes out : List ℕ) (n : ℕ) → length bytes ≡ n → take n
 front_taken bytes out n h = take_at bytes (drop (0 + length bytes) out) n h
 
 -- the number of bytes that checks passed with
-passed : Check → ℕ
-passed (pass n) = n
-passed (stop r) = 0
-
-counted : {P : Type 0} {i : ℕ} {c : Check} → Verdict P i c → (n : ℕ) → c ≡ pass n → n ≡ i
-unfolding passed
-counted (passes p e) n h = sym (ap passed h) ∙ ap passed e
-counted (stops r z e) n h = absurd (pass_or_stop n r (sym h ∙ e))
+counted : {P : Type 0} {i : ℕ} {c : Check} → Verdict P i c → (n : ℕ) → c ≡ Ok n → n ≡ i
+counted v n h =
+    let e = (sure v n h).1 in
+    cc
 
 module _ (C : ℕ → List ℕ → List ℕ → List ℕ) (ciphers : (nr : ℕ) (w : List ℕ) → IsCipher (C nr w)) (form : ℕ) (key nonce ad : List ℕ) (t : ℕ) where
   -- ---- a beginning that was accepted
@@ -76,18 +74,18 @@ module _ (C : ℕ → List ℕ → List ℕ → List ℕ) (ciphers : (nr : ℕ) 
   abbrev a : List ℕ
   a = added E (E (zeros 16)) f nonce ad t
 
-  begun : {P : Type 0} {c : Check} → Verdict P 0 c → number_of (begin_by C c form key nonce ad t).answer ≡ 0 → P × (c ≡ pass 0)
+  begun : {P : Type 0} {c : Result (Unit {0}) Refusal} → Verdict P (tt {0}) c → number_of (begin_by C c form key nonce ad t).answer ≡ 0 → P × (c ≡ Ok (tt {0}))
   begun (passes p e) h = (p, e)
-  begun (stops r z e) h = absurd (z (sym (ap (λ (c : Check). number_of (begin_by C c form key nonce ad t).answer) e) ∙ h))
+  begun (stops r e) h = absurd (never_0 r (sym (ap (λ (c : Result (Unit {0}) Refusal). number_of (begin_by C c form key nonce ad t).answer) e) ∙ h))
 
   module _ (yes : number_of (beginning C form key nonce ad t).answer ≡ 0) where
-    pub begun_with_lem : Called 3 form (known_key (length key)) (length nonce) t (length ad) × (call_check 3 form (known_key (length key)) (length nonce) t (length ad) (pass 0) ≡ pass 0)
+    pub begun_with_lem : Called 3 form (known_key (length key)) (length nonce) t (length ad) × (call_check 3 form (known_key (length key)) (length nonce) t (length ad) (Ok (tt {0})) ≡ Ok (tt {0}))
     unfolding beginning
     begun_with_lem = begun (call_verdict 3 form (known_key (length key)) (length nonce) t (length ad)) yes
 
-    begin_is : beginning C form key nonce ad t ≡ record { answer = Done 0 (begin_runs C form key nonce ad t); sealer = begun_with C form key nonce ad t }
+    begin_is : beginning C form key nonce ad t ≡ record { answer = done 0 (begin_runs C form key nonce ad t); sealer = begun_with C form key nonce ad t }
     unfolding beginning
-    begin_is = ap (λ (c : Check). begin_by C c form key nonce ad t) begun_with_lem.1
+    begin_is = ap (λ (c : Result (Unit {0}) Refusal). begin_by C c form key nonce ad t) begun_with_lem.1
 
     e : IsCipher E
     e = ciphers (expanded key).rounds (expanded key).words
@@ -152,7 +150,7 @@ module _ (C : ℕ → List ℕ → List ℕ → List ℕ) (ciphers : (nr : ℕ) 
         subst (Stands m' o' j') hs (subst (λ (n : ℕ). Stands m' o' n s) hj (subst (λ (l : List ℕ). Stands m' l j s) ho (subst (λ (l : List ℕ). Stands l o j s) hm h)))
 
     -- a refused call leaves it so
-    nothing_taken : (c : Call) (r : Step) → Refusal r.answer → taken_in c r ≡ []
+    nothing_taken : (c : Call) (r : Step) → IsRefusal r.answer → taken_in c r ≡ []
     nothing_taken (feed x out) r h = ap (λ (b : Bool). fed_if b x) (ne_eqb (number_of r.answer) 0 h.number)
     nothing_taken (end out) r h = refl
 
@@ -190,7 +188,7 @@ module _ (C : ℕ → List ℕ → List ℕ → List ℕ) (ciphers : (nr : ℕ) 
               let at : standing S ≡ reached k m = sealer_stands C form key nonce ad t m in
               let verdict = feed_verdict S.rounds S.tag S.fed (length x) (length out) in
               let long : length (fed_bytes E (reached k m) x) ≡ n = fed_long m x ∙ sym (counted verdict n come) in
-              let most : length (m ++ x) ≤ 16384 = omega (arith, length-append m x, (sure verdict n come).1) in
+              let most : length (m ++ x) ≤ 16384 = omega (arith, length-append m x, (sure verdict n come).0.1) in
               moved (m ++ x) (m ++ taken_in (feed x out) r) (pairs E k (pairs_of (length (m ++ x))) (m ++ x)) (O ++ take (length_of r.answer) after)
               (length (pairs_inputs E k (pairs_of (length (m ++ x))) (m ++ x))) (J + runs_of r.answer) (sealer_at C form key nonce ad t (m ++ x)) r.sealer
               (sym (ap (λ (y : Step). m ++ fed_if (eqb (number_of y.answer) 0) x) is))
@@ -246,7 +244,7 @@ module _ (C : ℕ → List ℕ → List ℕ → List ℕ) (ciphers : (nr : ℕ) 
     step m o j s (over hs ho hj) c r after h =
         let q = stays_ended C s (ap (λ (z : Sealer). going_on z.rounds z.tag z.fed) hs) c r after h in
         unchanged m o j s (over hs ho hj) c r after
-        (record { refusal = subst Refusal (sym (ap (λ (y : Step). y.answer) q.0)) is_ended; sealer = ap (λ (y : Step). y.sealer) q.0; buffer = q.1 })
+        (record { refusal = subst IsRefusal (sym (ap (λ (y : Step). y.answer) q.0)) is_ended; sealer = ap (λ (y : Step). y.sealer) q.0; buffer = q.1 })
 
     -- and any number of them
     steps : {s last : Sealer} {m' o' : List ℕ} {j' : ℕ} → Session C s m' o' j' last → (m o : List ℕ) (j : ℕ) → Stands m o j s → Stands (m ++ m') (o ++ o') (j + j') last

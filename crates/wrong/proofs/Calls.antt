@@ -18,9 +18,8 @@ use Rattle.mode.specs.declared.edition.Edition.{Edition}
 use Rattle.mode.specs.declared.edition.Edition.TheVariants.{V3}
 use Rattle.mode.specs.Sealing.{otr}
 use Rattle.mode.proofs.Otr.{length-otr, otr_injective}
-use Rattle.link.specs.Answers.{number_of, runs_of}
+use Rattle.link.specs.Answers.{Answer, number_of, runs_of}
 use Rattle.link.specs.Promises.{Seals, Opens}
-use Rattle.link.specs.declared.answer.Answer.{Answer}
 use Rattle.link.proofs.Entries.{aes_cipher, aes_ta}
 use Rattle.demands.specs.Calls.{first_failing, key_known, seal_checks, open_checks, Named, Limits, formula}
 use Rattle.demands.proofs.Limits.{edition_known, form_known}

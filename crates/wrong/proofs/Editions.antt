@@ -11,9 +11,8 @@ use Rattle.block.specs.Block.{pad}
 use Rattle.mode.specs.declared.edition.Edition.TheVariants.{V1}
 use Rattle.mode.specs.Nonce.{format}
 use Rattle.mode.specs.Sealing.{sealed, data_tag}
-use Rattle.link.specs.Answers.{number_of}
+use Rattle.link.specs.Answers.{Answer, number_of}
 use Rattle.link.specs.Promises.{Seals, Opens}
-use Rattle.link.specs.declared.answer.Answer.{Answer}
 use Rattle.wrong.proofs.Named.{key, nonce, one, m64, from_block, editions_apart, bound_apart, doubles_right, doubled_apart}
 use Rattle.wrong.proofs.Calls.{room, small, s, third_parallel, first_parallel, limits, all_sealed, seals_as, opens_as, seals_refused, opens_refused, seals_taken, opens_taken}
 

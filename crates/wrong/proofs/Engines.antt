@@ -16,8 +16,7 @@ use Rattle.mode.specs.Feeding.{from}
 use Rattle.plans.specs.Plan.{entries, pair_at, engine_at, Accepted}
 use Rattle.plans.specs.Planner.{load}
 use Rattle.plans.proofs.Plans.{twice_refused, missing_refused, too_large_refused, engine_refused, not_whole_refused}
-use Rattle.link.specs.Answers.{number_of}
-use Rattle.link.specs.declared.answer.Answer.{Answer}
+use Rattle.link.specs.Answers.{Answer, number_of}
 use Rattle.engines.specs.Promises.{SealsPlanned, Plans}
 use Rattle.demands.specs.Calls.{first_failing, key_known, seal_checks}
 use Rattle.demands.proofs.Engines.{planned_answers, planned_seals, planner_answers}

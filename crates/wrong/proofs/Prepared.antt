@@ -17,10 +17,9 @@ use Rattle.mode.specs.Edition.{edition_of}
 use Rattle.mode.specs.Sealing.{otr_from}
 use Rattle.mode.proofs.Otr.{length-otr}
 use Rattle.pairs.proofs.Cipher.{is_cipher, length-ta}
-use Rattle.link.specs.Answers.{number_of}
+use Rattle.link.specs.Answers.{Answer, number_of}
 use Rattle.link.specs.Prepared.{cipher_of, preparation}
 use Rattle.link.specs.Promises.{SealsWith, OpensWith}
-use Rattle.link.specs.declared.answer.Answer.{Answer}
 use Rattle.link.specs.declared.prepared.Prepared.{Prepared}
 use Rattle.link.specs.declared.prepared.Preparation.{Preparation}
 use Rattle.demands.specs.Calls.{first_failing, rounds_known, open_checks, Named, Limits}
