@@ -42,201 +42,107 @@ mod call;
 mod fields;
 mod request;
 
-ghost use Rattle.std.specs.Prelude.{◌≡◌, ◌≤◌, length};
-ghost use Rattle.console.specs.Bounds.{Enough};
+ghost use Rattle.std.specs.Prelude.{◌≤◌};
+ghost use Rattle.console.specs.declared.TheConstants.{BUFFER};
 
-use call::Replied;
-use request::Line;
-use sealer::Sealer;
+use call::Desk;
 use std::io::{Read, Write};
 
-// How many bytes each buffer has: more than a line may have, and room for the longest answer.
+// How many bytes are read at once, and how many of a line are held: more than a line may have.
 const BUFFER: usize = 65536;
 
-// How far the input was read, and what is kept from line to line.
+// The line that is being read.
 #[derive(Drop)]
-struct Reading {
-    // The number of the line that is being read, from 1.
+struct Incoming {
+    // Its number, from 1.
     number: u64,
-    // How many of its bytes are held, at the start of the line's buffer.
+    bytes: [u8; BUFFER],
+    // How many of its bytes are held, at the start of the buffer.
     held: usize,
-    // Whether to read on: not after the input's end, nor after an answer that could not be written.
-    more: bool,
-    // What the requests `feed` and `end` go to.
-    sealer: Sealer,
+    ghost in_bounds: { held ≤ BUFFER },
 }
 
 fn main(rt: HostRuntime) {
-    let mut chunk = [0u8; BUFFER];
-    let mut line = [0u8; BUFFER];
-    let mut output = [0u8; BUFFER];
-    let mut text = [0u8; BUFFER];
-    converse(
-        &mut rt.stdin(),
-        &mut rt.stdout(),
-        &mut chunk,
-        &mut line,
-        &mut output,
-        &mut text,
-    );
+    converse(&mut rt.stdin(), &mut rt.stdout());
 }
 
 // A proved loop has to end, and nothing says that an input does. So the loop counts its turns, up to a number that no run comes to.
-fn converse<R: Read, W: Write>(
-    from: &mut R,
-    to: &mut W,
-    chunk: &mut [u8],
-    line: &mut [u8],
-    output: &mut [u8],
-    text: &mut [u8],
-)
-    requires { Enough (length output.old) (length text.old) }
-{
-    let mut reading = Reading {
-        number: 1,
-        held: 0,
-        more: true,
-        sealer: sealer::ended(),
-    };
+fn converse<R: Read, W: Write>(from: &mut R, to: &mut W) {
+    let mut chunk = [0u8; BUFFER];
+    let mut line = Incoming::new();
+    let mut desk = Desk::new(to);
     for _turn in 0..u64::MAX {
-        if !reading.more {
+        // A read that fails counts as the input's end, where what is held is a line too.
+        let count = from.read(&mut chunk).unwrap_or(0);
+        if count == 0 {
+            if line.held > 0 {
+                line.reply(&mut desk);
+            }
             break;
         }
-        reading = read_chunk(reading, from, to, chunk, line, output, text);
+        if !take(&chunk[..count], &mut line, &mut desk) {
+            break;
+        }
     }
 }
 
-// Reads once, and answers the lines that end in what came. A read that fails counts as the input's end, where what is held is a line
-// too.
-fn read_chunk<R: Read, W: Write>(
-    before: Reading,
-    from: &mut R,
-    to: &mut W,
-    chunk: &mut [u8],
-    line: &mut [u8],
-    output: &mut [u8],
-    text: &mut [u8],
-) -> Reading
-    requires held_in_bounds { before.held ≤ length line.old }
-    requires enough { Enough (length output.old) (length text.old) }
-    ensures { result.held ≤ length line.old }
-{
-    let count = from.read(chunk).unwrap_or(0);
-    if count > 0 {
-        return take_chunk(&chunk[..count], before, to, line, output, text);
+// Answers the lines that end in the chunk, and holds what is left of it. Says whether to read on: not after an answer that could not be
+// written.
+fn take<W: Write>(chunk: &[u8], line: &mut Incoming, desk: &mut Desk<W>) -> bool {
+    for part in chunk.split_inclusive(|byte| *byte == b'\n') {
+        match part.strip_suffix(b"\n") {
+            None => line.hold(part),
+            Some(rest) => {
+                line.hold(rest);
+                if !line.end(desk) {
+                    return false;
+                }
+            }
+        }
     }
-    let held = before.held;
-    let number = before.number;
-    let mut sealer = before.sealer;
-    if held > 0 {
-        sealer = reply(&mut line[..held], number, sealer, to, output, text).sealer;
-    }
-    Reading {
-        number,
-        held: 0,
-        more: false,
-        sealer,
-    }
+    true
 }
 
-// Answers the lines that end in the chunk, and holds what is left of it. A reading is handed on once a line, and not once a byte: it has
-// the sealer in it, which would be copied each time.
-fn take_chunk<W: Write>(
-    chunk: &[u8],
-    before: Reading,
-    to: &mut W,
-    line: &mut [u8],
-    output: &mut [u8],
-    text: &mut [u8],
-) -> Reading
-    requires held_in_bounds { before.held ≤ length line.old }
-    requires enough { Enough (length output.old) (length text.old) }
-    ensures { result.held ≤ length line.old }
-{
-    let mut reading = before;
-    let mut at = 0;
-    let mut end = fields::find(chunk, at, b'\n');
-    while end < chunk.len() && reading.more {
-        reading = end_line(reading, to, line, &chunk[at..end], output, text);
-        at = end + 1;
-        end = fields::find(chunk, at, b'\n');
+impl Incoming {
+    fn new() -> Incoming {
+        Incoming {
+            number: 1,
+            bytes: [0; BUFFER],
+            held: 0,
+        }
     }
-    reading.held = hold(line, reading.held, &chunk[at..end]);
-    reading
-}
 
-// Puts more of a line behind what is held of it, and answers how much is held then. A line that fills its buffer is longer than a line
-// may be, so that the rest of it need not be held.
-fn hold(line: &mut [u8], held: usize, bytes: &[u8]) -> usize
-    requires { held ≤ length line.old }
-    ensures { result ≤ length line.old }
-{
-    let left = line.len() - held;
-    if bytes.len() < left {
-        return answer::put(line, held, bytes);
+    // Puts more of the line behind what is held of it. A line that fills its buffer is longer than a line may be, so that the rest of it
+    // need not be held.
+    fn hold(&mut self, bytes: &[u8]) {
+        let from = self.held;
+        let count = bytes.len().min(BUFFER - from);
+        let to = from + count;
+        self.bytes[from..to].copy_from_slice(&bytes[..count]);
+        self.held = to;
     }
-    answer::put(line, held, &bytes[..left])
-}
 
-// Answers the line whose last bytes, up to its LF, are `rest`.
-fn end_line<W: Write>(
-    before: Reading,
-    to: &mut W,
-    line: &mut [u8],
-    rest: &[u8],
-    output: &mut [u8],
-    text: &mut [u8],
-) -> Reading
-    requires held_in_bounds { before.held ≤ length line.old }
-    requires enough { Enough (length output.old) (length text.old) }
-    ensures { result.held ≡ 0 }
-{
-    let number = before.number;
-    let held = hold(line, before.held, rest);
-    let end = without_cr(line, held);
-    let replied = reply(&mut line[..end], number, before.sealer, to, output, text);
-    Reading {
+    // Answers the line, whose LF has come, and goes on to the next. CR LF counts as LF.
+    fn end<W: Write>(&mut self, desk: &mut Desk<W>) -> bool {
+        if self.bytes[..self.held].ends_with(b"\r") {
+            self.held -= 1;
+        }
+        let written = self.reply(desk);
+        self.held = 0;
         // No input has so many lines that this wraps.
-        number: number.wrapping_add(1),
-        held: 0,
-        more: replied.written,
-        sealer: replied.sealer,
+        self.number = self.number.wrapping_add(1);
+        written
     }
-}
 
-// How many of the bytes that are held when an LF comes are the line's: CR LF counts as LF.
-fn without_cr(line: &[u8], held: usize) -> usize
-    requires { held ≤ length line.now }
-    ensures { result ≤ held }
-{
-    if held > 0 && line[held - 1] == b'\r' {
-        return held - 1;
+    // Answers what is held, and says whether the answer could be written.
+    fn reply<W: Write>(&mut self, desk: &mut Desk<W>) -> bool {
+        let number = self.number;
+        desk.reply(self.line(), number)
     }
-    held
-}
 
-// Answers a whole line.
-fn reply<W: Write>(
-    line: &mut [u8],
-    number: u64,
-    sealer: Sealer,
-    to: &mut W,
-    output: &mut [u8],
-    text: &mut [u8],
-) -> Replied
-    requires { Enough (length output.old) (length text.old) }
-{
-    let written = match request::parse(line) {
-        Line::PassedOver => true,
-        Line::Bad => answer::write_bad_line(to, text, number),
-        Line::Prepare(key) => answer::write_preparation(to, text, call::prepare(line, key)),
-        Line::Request(request) => call::carry_out(to, line, request, output, text),
-        Line::Carry(request) => call::carry(to, line, request, output, text),
-        Line::SealPlanned(request) => call::seal_planned(to, line, request, output, text),
-        Line::Plan(length, room) => call::plan(to, length, room, output, text),
-        Line::Begin(request) => return call::begin(to, line, request, text),
-        Line::Feed(request) => return call::feed(to, line, request, sealer, output, text),
-        Line::End(room) => return call::end(to, room, sealer, output, text),
-    };
-    Replied { written, sealer }
+    fn line(&mut self) -> &mut [u8] {
+        let held = self.held;
+        let bytes = &mut self.bytes;
+        &mut bytes[..held]
+    }
 }

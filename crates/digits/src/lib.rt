@@ -1,31 +1,19 @@
 // Numbers as the programs are told them.
 #![tactic(auto)]
 
-ghost use Rattle.digits.specs.Bounds.{AtMost};
-
-#[derive(Clone, Copy)]
-pub enum Parsed {
-    Value(usize),
-    Bad,
-}
+ghost use Rattle.std.specs.Prelude.{◌≤◌, IfSome};
 
 // The number that one to five decimal digits stand for, up to 65535. Zeros may stand in front.
-pub fn decimal(digits: &[u8]) -> Parsed
-    ensures { AtMost 65535 result }
+pub fn decimal(digits: &[u8]) -> Option<usize>
+    ensures { IfSome result (λ value. value ≤ 65535) }
 {
-    if digits.len() == 0 || 5 < digits.len() {
-        return Parsed::Bad;
+    if digits.is_empty() || 5 < digits.len() {
+        return None;
     }
-    let mut value = 0;
+    let mut value = 0u16;
     for digit in digits {
-        let digit = *digit;
-        if digit < b'0' || b'9' < digit {
-            return Parsed::Bad;
-        }
-        value = 10 * value + (digit - b'0') as usize;
-        if 65535 < value {
-            return Parsed::Bad;
-        }
+        let ones = char::from(*digit).to_digit(10)? as u16;
+        value = value.checked_mul(10)?.checked_add(ones)?;
     }
-    Parsed::Value(value)
+    Some(usize::from(value))
 }

@@ -104,17 +104,6 @@ lay_whole new out h =
     let none : drop (0 + length new) out ≡ [] = drop_of_length-le out {i = 0 + length new} (omega arith) in
     ap (λ (l : List ℕ). new ++ l) none ∙ append-nil new
 
-pub front_all : (new out : List ℕ) (k : ℕ) → length new ≤ k → length out ≤ length new → lay 0 (take k new) out ≡ new
-front_all new out k h e = ap (λ (l : List ℕ). lay 0 l out) (take_all k new h) ∙ lay_whole new out e
-
--- new over as many bytes at the end
-pub lay_end : (p z new : List ℕ) (i : ℕ) → length p ≡ i → length z ≡ length new → lay i new (p ++ z) ≡ p ++ new
-lay_end p z new i h e =
-    let none : drop (length new) z ≡ [] = drop_of_length-le z {i = length new} (omega arith) in
-    ap₂ (λ (a b : List ℕ). a ++ (new ++ b)) (take_at p z i h)
-    (ap (λ (k : ℕ). drop (k + length new) (p ++ z)) (sym h) ∙ drop-append-add p z (length new) ∙ none)
-    ∙ ap (λ (l : List ℕ). p ++ l) (append-nil new)
-
 -- laid into the part from place i to the end, and so into the whole
 pub lay_part : (i : ℕ) (new out : List ℕ) → i ≤ length out
     → take i out ++ (lay 0 new (take (length out - i) (drop i out)) ++ drop (length out - i) (drop i out)) ≡ lay i new out

@@ -1,111 +1,73 @@
 // Sealing in parts: sessions with a sealer.
-ghost use Rattle.std.specs.Prelude.{◌<◌, ◌≤◌};
+ghost use Rattle.std.specs.Prelude.{◌≤◌, length};
 
+use crate::{PARALLEL, Strings, TAG_BYTES, done, repeat};
 use link::{Answer, Done};
 use sealer::Step;
 
-// A turn of the loop makes a session and nothing else.
-pub fn seal(
-    key: &[u8],
-    nonce: &[u8],
-    data: &[u8],
-    message: &[u8],
-    part: usize,
-    idle: usize,
-    out: &mut [u8],
-    calls: usize,
-) -> Answer {
-    let mut answer = Ok(Done { length: 0, runs: 0 });
-    for _call in 0..calls {
-        let begun = sealer::begin(crate::PARALLEL, key, nonce, data, crate::TAG_BYTES);
-        let fed = feed_parts(begun, message, part, out);
+// The answer is that of the last session.
+pub fn seal(strings: Strings, part: usize, idle: usize, out: &mut [u8], calls: usize) -> Answer {
+    repeat(calls, done(0, 0), || {
+        let begun = sealer::begin(
+            PARALLEL,
+            strings.key,
+            strings.nonce,
+            strings.data,
+            TAG_BYTES,
+        );
+        let fed = feed_parts(begun, strings.message, part, out);
         let idled = feed_none(fed, idle, out);
-        answer = end(idled, out);
-    }
-    answer
+        end(idled, out)
+    })
 }
 
 // In a step that goes from one of these functions to the next, the answer is that of all the session's calls so far; its length is where
-// the output goes on.
+// the output goes on. No part has no bytes: main makes none.
 fn feed_parts(begun: Step, message: &[u8], part: usize, out: &mut [u8]) -> Step {
-    let mut sum = begun.answer;
-    let mut sealer = begun.sealer;
-    let mut at = 0;
-    while at < message.len() {
-        let to = part_end(at, part, message.len());
-        let from = least(link::length(sum), out.len());
-        let step = sealer.feed(&message[at..to], &mut out[from..]);
-        let answer = step.answer;
-        sum = plus(sum, answer);
-        sealer = step.sealer;
-        at = to;
+    let mut sum = begun;
+    for bytes in message.chunks(part.max(1)) {
+        let from = behind(sum.answer, out);
+        sum = plus(sum.answer, sum.sealer.feed(bytes, &mut out[from..]));
     }
-    Step {
-        answer: sum,
-        sealer,
-    }
+    sum
 }
 
 // No bytes, so many times. Nothing comes out, so that all of the output can be lent.
 fn feed_none(fed: Step, feeds: usize, out: &mut [u8]) -> Step {
-    let mut sum = fed.answer;
-    let mut sealer = fed.sealer;
+    let mut sum = fed;
     for _feed in 0..feeds {
-        let step = sealer.feed(b"", out);
-        let answer = step.answer;
-        sum = plus(sum, answer);
-        sealer = step.sealer;
+        sum = plus(sum.answer, sum.sealer.feed(b"", out));
     }
-    Step {
-        answer: sum,
-        sealer,
-    }
+    sum
 }
 
 fn end(fed: Step, out: &mut [u8]) -> Answer {
-    let sum = fed.answer;
-    let sealer = fed.sealer;
-    let from = least(link::length(sum), out.len());
-    let step = sealer.end(&mut out[from..]);
-    let answer = step.answer;
-    plus(sum, answer)
+    let from = behind(fed.answer, out);
+    plus(fed.answer, fed.sealer.end(&mut out[from..])).answer
 }
 
-// Where a part that starts at `at` ends. One of no bytes would never get to the end: it is all that is left, and main makes none.
-fn part_end(at: usize, part: usize, end: usize) -> usize
-    requires { at < end }
-    ensures goes_on { at < result }
-    ensures in_bounds { result ≤ end }
+// Where the output goes on behind what the calls so far put out. That never comes to more than the output, but no proof says so here: if
+// it did, the next call would be lent no room.
+fn behind(sum: Answer, out: &[u8]) -> usize
+    ensures { result ≤ length out.now }
 {
-    if part == 0 {
-        return end;
-    }
-    if end - at <= part {
-        return end;
-    }
-    at + part
+    link::length(sum).min(out.len())
 }
 
-// The lengths so far never come to more than the output, but no proof says so here: if they did, the next call would be lent no room.
-fn least(a: usize, b: usize) -> usize
-    ensures { result ≤ b }
-{
-    if a < b {
-        return a;
+// The next step, with what the calls so far and its own come to.
+fn plus(before: Answer, next: Step) -> Step {
+    Step {
+        answer: together(before, next.answer),
+        sealer: next.sealer,
     }
-    b
 }
 
-// What calls so far and the next one come to: the first refusal, or both done.
-fn plus(before: Answer, next: Answer) -> Answer {
-    if link::number(before) != 0 {
-        return before;
-    }
-    if link::number(next) != 0 {
-        return next;
-    }
+// The first refusal, or both done.
+fn together(before: Answer, next: Answer) -> Answer {
+    let before = before?;
+    let next = next?;
     Ok(Done {
-        length: link::length(before).wrapping_add(link::length(next)),
-        runs: link::runs(before).wrapping_add(link::runs(next)),
+        length: before.length.wrapping_add(next.length),
+        runs: before.runs.wrapping_add(next.runs),
     })
 }

@@ -1,4 +1,4 @@
--- `decimal` keeps its value within bounds, so that no sum wraps.
+-- The number so far fits its type.
 use Rattle.std.proofs.Common.{◌≤◌}
 use Rattle.digits.proofs.decimal.Given as goal
 
