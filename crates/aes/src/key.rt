@@ -36,21 +36,13 @@ pub struct RoundKeys {
     pub words: [u8; 240],
 }
 
-// No round keys at all.
-#[tactic(auto, unfolding(lists::specs::Zeros::zeros))]
-pub fn blank() -> [u8; 240]
-    ensures { result ≡ zeros 240 }
-{
-    [0; 240]
-}
-
 // The key of nk words and n words more, at the front of 60.
 fn schedule(sbox: &Sbox, key: &[u8], nk: usize, n: usize) -> [u8; 240]
     requires key_len { (length key.now ≡ 4 * nk) × (4 ≤ nk) }
     requires n_bound { (nk + n ≤ 60) × (nk + n ≤ 11 * nk) }
     ensures { result ≡ lay 0 (words_of nk key.now n) (zeros 240) }
 {
-    let mut w = blank();
+    let mut w = lists::blank();
     lists::lay(&mut w, 0, key);
     expansion::fill(sbox, &mut w, nk, n);
     w

@@ -8,6 +8,6 @@ mod state;
 mod steps;
 
 pub use cipher::encrypt;
-pub use key::{KeySize, RoundKeys, blank, encrypt_under, expand, key_size};
+pub use key::{KeySize, RoundKeys, encrypt_under, expand, key_size};
 pub use state::{key_word, shift_rows};
 pub use steps::Steps;

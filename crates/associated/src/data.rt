@@ -11,7 +11,7 @@ pub fn first_q(e: &Cipher, needed: bool) -> Ran<[u8; 16]>
     ensures block_value { result.value ≡ first_q (cipher_under e.now) needed }
     ensures runs_value { result.runs ≡ length (q_inputs needed) }
 {
-    let zeros = block::zeros();
+    let zeros = lists::blank();
     if needed {
         return Ran {
             value: e.encrypt(zeros),
@@ -40,7 +40,7 @@ pub fn ta(e: &Cipher, a: &[u8], n: usize, mask: [u8; 16], xi: Ran<[u8; 16]>) -> 
 {
     if a.is_empty() {
         return Ran {
-            value: block::zeros(),
+            value: lists::blank(),
             runs: 0,
         };
     }

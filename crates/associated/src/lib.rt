@@ -62,7 +62,7 @@ pub fn seals_with(e: &Cipher, q: [u8; 16], s: &Settings) -> Ran<SealsWith>
         Form::Parallel => SealsWith { u: v, added: ta },
         Form::Serial => SealsWith {
             u: v.xor(ta).double(),
-            added: block::zeros(),
+            added: lists::blank(),
         },
     };
     // one for the nonce block

@@ -11,7 +11,7 @@ fn format(t: usize, nonce: &[u8]) -> [u8; 16]
     ensures { result ≡ format_of t nonce.now }
 {
     let marker = 15 - nonce.len();
-    let mut b = block::zeros();
+    let mut b = lists::blank();
     b[0] = (2 * (8 * t % 128)) as u8;
     b[marker] += 1;
     b[marker + 1..].copy_from_slice(nonce);

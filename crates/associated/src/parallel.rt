@@ -22,7 +22,7 @@ fn data_sum(e: &Cipher, first: [u8; 16], a: &[u8], n: usize) -> Ran<DataSum>
     ensures sum_value { (result.value.sum ≡ data_sum (cipher_under e.now) first n a.now) × (result.value.q ≡ doubles n first) }
     ensures runs_value { result.runs ≡ length (sum_inputs first n a.now) }
 {
-    let mut sum = block::zeros();
+    let mut sum = lists::blank();
     let mut q = first;
     let mut runs: usize = 0;
     for i in 0..n {

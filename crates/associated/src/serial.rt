@@ -13,7 +13,7 @@ fn chain(e: &Cipher, a: &[u8], n: usize) -> Ran<[u8; 16]>
     ensures block_value { result.value ≡ chain_of (cipher_under e.now) n a.now }
     ensures runs_value { result.runs ≡ length (chain_inputs (cipher_under e.now) n a.now) }
 {
-    let mut xi = block::zeros();
+    let mut xi = lists::blank();
     let mut runs: usize = 0;
     for i in 0..n {
         let b = block::read_block(a, 16 * i);

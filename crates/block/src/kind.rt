@@ -4,6 +4,8 @@ ghost use Rattle.lists.specs.Xor.{xor};
 ghost use Rattle.block.specs.Block.{double, triple, triple_twice, seven};
 ghost use Rattle.block.specs.Wide.{bytes_of};
 
+use crate::wide;
+
 pub trait Block: Copy {
     // The bytes that it stands for.
     ghost bytes: { Self → List ℕ };
@@ -33,11 +35,11 @@ impl Block for [u8; 16] {
     }
 
     fn xor(self, other: [u8; 16]) -> [u8; 16] {
-        crate::xor(self, other)
+        <[u64; 2]>::of(self).xor(Block::of(other)).to_bytes()
     }
 
     fn double(self) -> [u8; 16] {
-        crate::double(self)
+        <[u64; 2]>::of(self).double().to_bytes()
     }
 }
 
@@ -45,19 +47,19 @@ impl Block for [u64; 2] {
     ghost bytes = { bytes_of };
 
     fn of(b: [u8; 16]) -> [u64; 2] {
-        crate::to_words(b)
+        wide::to_words(b)
     }
 
     fn to_bytes(self) -> [u8; 16] {
-        crate::from_words(self)
+        wide::from_words(self)
     }
 
     fn xor(self, other: [u64; 2]) -> [u64; 2] {
-        crate::xor_words(self, other)
+        wide::xor_words(self, other)
     }
 
     fn double(self) -> [u64; 2] {
-        crate::double_words(self)
+        wide::double_words(self)
     }
 }
 

@@ -66,7 +66,7 @@ fn one(e: &Cipher, l: [u8; 16], src: &[u8], at: usize, out: &mut [u8]) -> Ran<[u
     let n = src.len() - at;
     if n == 0 {
         return Ran {
-            value: block::zeros(),
+            value: lists::blank(),
             runs: 0,
         };
     }

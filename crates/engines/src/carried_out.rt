@@ -11,7 +11,7 @@ ghost use Rattle.mode.specs.Message.{pairs_of as count_of, block as block_of, pa
 ghost use Rattle.mode.specs.Sealing.{otr_from, from_inputs};
 ghost use Rattle.plans.specs.Plan.{Accepted};
 
-use associated::SealsWith;
+use associated::{SealsWith, Settings};
 use block::Block;
 use joined::Cipher;
 use mode::{Edition, Form};
@@ -68,7 +68,13 @@ pub fn seal(
     ensures runs_value { result ≡ length (from_inputs (cipher_under e.now) q (V3 Parallel) n.now a.now t m.now) }
 {
     let edition = Edition::V3(Form::Parallel);
-    let with = associated::seals_with(edition, e, q, n, a, t);
+    let settings = Settings {
+        edition,
+        nonce: n,
+        ad: a,
+        tag: t,
+    };
+    let with = associated::seals_with(e, q, &settings);
     let SealsWith { u, added } = with.value;
     let front = planned_pairs(e, u, m, plan, out);
     let masks = masks_of(Block::of(u), pairs::pairs_of(m.len())).to_bytes();

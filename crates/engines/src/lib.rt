@@ -4,6 +4,7 @@
 
 ghost use Rattle.engines.specs.Promises.{SealsPlanned, Plans};
 
+use joined::Ran;
 use link::{Answer, Done, Refusal};
 
 mod carried_out;
@@ -33,26 +34,12 @@ pub fn seal_planned(
     if !plans::accepted(plan, pairs::pairs_of(message.len())) {
         return Err(Refusal::Plan);
     }
-    let tables = tables::joined();
-    let own = link::own_record(&tables, key, ad);
-    let made = own.key;
-    let nr = made.rounds;
-    let q = made.zero;
-    let ran = carried_out::seal(
-        &tables,
-        &made.words,
-        nr,
-        q,
-        nonce,
-        ad,
-        message,
-        tag,
-        plan,
-        out,
-    );
+    let e = link::own_cipher(key);
+    let Ran { value: q, runs } = link::own_mask(&e, ad);
+    let ran = carried_out::seal(&e, q, nonce, ad, message, tag, plan, out);
     Ok(Done {
-        length: length,
-        runs: own.runs + ran,
+        length,
+        runs: runs + ran,
     })
 }
 

@@ -50,5 +50,5 @@ pub fn masks(strings: Strings, out: &mut [u8], calls: usize) -> Answer
 
 // The first so many masks, each from U alone.
 fn add_masks(before: [u64; 2], u: [u64; 2], count: usize) -> [u64; 2] {
-    (0..count).fold(before, |sum, i| block::xor_words(sum, powers::mask(u, i)))
+    (0..count).fold(before, |sum, i| sum.xor(powers::mask(u, i)))
 }

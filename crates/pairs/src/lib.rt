@@ -141,7 +141,7 @@ pub fn sum(m: &[u8], n: usize) -> [u8; 16]
     requires { 32 * n ≤ length m.now }
     ensures { result ≡ sum_of n m.now }
 {
-    let mut s = block::zeros();
+    let mut s = lists::blank();
     for i in 0..n {
         let more = s.xor(block::read_block(m, 32 * i + 16));
         s = more;

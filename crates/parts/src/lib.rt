@@ -35,18 +35,12 @@ struct Behind {
 }
 
 #[tactic(auto, unfolding(lists::specs::Zeros::zeros))]
-pub fn blank() -> [u8; 32]
-    ensures { result ≡ zeros 32 }
-{
-    [0; 32]
-}
-
 // The first held bytes of kept, and more behind them; then zeros, so that no byte stays that is not kept.
 fn join(kept: [u8; 32], held: usize, more: &[u8]) -> [u8; 32]
     requires { held + length more.now ≤ 32 }
     ensures { result ≡ kept32 (take held kept ++ more.now) }
 {
-    let mut all = blank();
+    let mut all = lists::blank();
     lists::lay(&mut all, 0, &kept[..held]);
     lists::lay(&mut all, held, more);
     all
@@ -60,7 +54,7 @@ fn next_pairs(e: &Cipher, front: Behind, src: &[u8], n: usize, out: &mut [u8]) -
     ensures runs_value { result.runs ≡ length (pairs_inputs (cipher_under e.now) (doubled front.masks.left front.masks.right) n src.now) }
 {
     let Behind { masks, sum } = front;
-    let zeros = block::zeros();
+    let zeros = lists::blank();
     let none = Masks {
         left: zeros,
         right: zeros,
@@ -105,7 +99,7 @@ fn later_pairs(e: &Cipher, front: Ran<Behind>, tail: &[u8], n: usize, out: &mut 
     let after = next_pairs(e, front.value, tail, n, out);
     let Behind { masks, sum } = after.value;
     let Masks { left, right } = masks;
-    let kept = join(blank(), 0, &tail[32 * n..]);
+    let kept = join(lists::blank(), 0, &tail[32 * n..]);
     Ran {
         value: State {
             left,

@@ -28,7 +28,7 @@ impl Start {
         ensures first_value { (result.first.left ≡ left) × (result.first.right ≡ right) }
         ensures step_value { (result.step.left ≡ zeros 16) × (result.step.right ≡ right_step) }
     {
-        let none = block::zeros();
+        let none = lists::blank();
         Start {
             first: Masks { left, right },
             step: Masks {
@@ -50,7 +50,7 @@ fn start_of(edition: Edition, u: [u8; 16]) -> Start
             // 2(L ⊕ δ) is 2L ⊕ 2δ, and with 3δ it is 2L ⊕ δ
             Start::new(four, four.xor(u), three)
         }
-        Edition::V3(_) => Start::new(u, three, block::zeros()),
+        Edition::V3(_) => Start::new(u, three, lists::blank()),
     }
 }
 

@@ -50,20 +50,16 @@ pub struct Step {
 pub fn ended() -> Sealer
     ensures { result ≡ ended_as }
 {
-    let w = aes::blank();
-    let z = block::zeros();
-    let kept = parts::blank();
-    let state = State {
-        left: z,
-        right: z,
-        sum: z,
-        kept: kept,
-    };
     Sealer {
         rounds: 0,
-        words: w,
-        state: state,
-        added: z,
+        words: lists::blank(),
+        state: State {
+            left: lists::blank(),
+            right: lists::blank(),
+            sum: lists::blank(),
+            kept: lists::blank(),
+        },
+        added: lists::blank(),
         tag: 0,
         fed: 0,
     }
@@ -110,8 +106,8 @@ fn start(
     let state = State {
         left: with.u,
         right: block::triple(with.u),
-        sum: block::zeros(),
-        kept: parts::blank(),
+        sum: lists::blank(),
+        kept: lists::blank(),
     };
     let sealer = Sealer {
         rounds,

@@ -20,7 +20,7 @@ returns c =
     let p = take n c.args.b in
     let long : length p ≡ n = length-take-le n c.args.b (omega arith) in
     let place : n ≡ 0 + length p = omega arith in
-    ap₂ (λ (l z : List ℕ). slice_set (l ++ drop n z) n 0x80) c.copy_from_slice.ensures.after c.zeros-p.ensures
+    ap₂ (λ (l z : List ℕ). slice_set (l ++ drop n z) n 0x80) c.copy_from_slice.ensures.after c.blank-p.ensures
     ∙ ap (λ (k : ℕ). slice_set (p ++ drop k (zeros 16)) k 0x80) place
     ∙ set-lay 0 p (zeros 16) 0x80 (omega (arith, length-zeros 16))
     ∙ sym (pad_short p (omega arith))

@@ -13,11 +13,11 @@ pub returns-clause-out_after : goal.returns-clause-out_after
 returns-clause-out_after c =
     let k = c.args.front.masks in
     c.pairs-runs.ensures.out_after (doubled k.left k.right)
-    (carries k.left k.right c.zeros-zeros.result (search (rules, c.well_formed)) (search (rules, c.well_formed)) c.zeros-zeros.ensures)
+    (carries k.left k.right c.blank-zeros.result (search (rules, c.well_formed)) (search (rules, c.well_formed)) c.blank-zeros.ensures)
 
 pub returns-clause-masks_after : goal.returns-clause-masks_after
 returns-clause-masks_after c =
     let k = c.args.front.masks in
     let after = c.pairs-runs.ensures.masks_after (doubled k.left k.right)
-    (carries k.left k.right c.zeros-zeros.result (search (rules, c.well_formed)) (search (rules, c.well_formed)) c.zeros-zeros.ensures) in
+    (carries k.left k.right c.blank-zeros.result (search (rules, c.well_formed)) (search (rules, c.well_formed)) c.blank-zeros.ensures) in
     (after.0, (after.1, cc))

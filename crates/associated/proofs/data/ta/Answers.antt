@@ -12,7 +12,7 @@ use Rattle.associated.proofs.data.ta.Goals as goal
 pub returns-then-is_empty-clause-block_value : goal.returns-then-is_empty-clause-block_value
 returns-then-is_empty-clause-block_value c d mask_is xi-is =
     let none : length c.args.a.now ≡ 0 = grind (arith, nat_tests) in
-    c.zeros.ensures ∙ sym (ta_none (cipher_under c.args.e.now) d c.args.a.now none)
+    c.blank.ensures ∙ sym (ta_none (cipher_under c.args.e.now) d c.args.a.now none)
 
 pub returns-then-is_empty-clause-runs_value : goal.returns-then-is_empty-clause-runs_value
 returns-then-is_empty-clause-runs_value c d runs_are =

@@ -54,4 +54,4 @@ pub returns-in-V3 : goal.returns-in-V3
 returns-in-V3 c =
     let start = c.new-in-V3.ensures in
     rw (c.in-V3.is, start.first_value.0, start.first_value.1, start.step_value.0, start.step_value.1)
-    (rw (c.triple-three.ensures, c.zeros.ensures) (third-carries c.args.u (search rules)))
+    (rw (c.triple-three.ensures, c.blank.ensures) (third-carries c.args.u (search rules)))
