@@ -65,13 +65,15 @@ module _ (l r s y : List ℕ) (p q : ℕ) where
   state_add : behind_state (doubles p l) (doubles p r) (xor s (sum p y)) q (drop (32 * p) y) ≡ behind_state l r s (p + q) y
   state_add =
       let place : 32 * p + 32 * q ≡ 32 * (p + q) = omega arith in
-      ap₂ (λ (a b : List ℕ). record { left = a; right = b; sum = xor (xor s (sum p y)) (sum q (drop (32 * p) y)); kept = kept32 (drop (32 * q) (drop (32 * p) y)) })
+      let x = drop (32 * p) y in
+      ap₂ (λ (a b : List ℕ). record { left = a; right = b; sum = xor (xor s (sum p y)) (sum q x); kept = kept32 (drop (32 * q) x) })
       (sym (doubles_add p q l)) (sym (doubles_add p q r))
       ∙ ap₂ (λ (a b : List ℕ). record { left = doubles (p + q) l; right = doubles (p + q) r; sum = a; kept = kept32 b })
       (xor_assoc s (sum p y) (sum q (drop (32 * p) y)) ∙ ap (xor s) (sym (sum_add y p q)))
       (drop-drop (32 * q) (32 * p) y ∙ ap (λ (i : ℕ). drop i y) place)
 
-  bytes_add : (E : List ℕ → List ℕ) → pairs E (doubled l r) p y ++ pairs E (doubled (doubles p l) (doubles p r)) q (drop (32 * p) y) ≡ pairs E (doubled l r) (p + q) y
+  bytes_add : (E : List ℕ → List ℕ)
+      → pairs E (doubled l r) p y ++ pairs E (doubled (doubles p l) (doubles p r)) q (drop (32 * p) y) ≡ pairs E (doubled l r) (p + q) y
   bytes_add E =
       sym (pairs_add y p E (doubled l r) q ∙ ap (λ (k : Masks). pairs E (doubled l r) p y ++ pairs E k q (drop (32 * p) y)) (from_doubled p l r))
 
@@ -100,7 +102,9 @@ module _ (E : List ℕ → List ℕ) (e : IsCipher E) (s : State) (held n : ℕ)
 
   -- so many bytes lie behind the first pair
   tail_most : (32 * (n - 1) ≤ length part - (32 - held)) × (length part - (32 - held) ≤ 32 * (n - 1) + 32) × (32 ≤ held + length part)
-  tail_most = (omega (arith, d.count, d.some, pairs_are (held + length part)), omega (arith, d.count, d.some, pairs_are (held + length part)), omega (arith, d.count, d.some, pairs_are (held + length part)))
+  tail_most =
+      let due = pairs_are (held + length part) in
+      (omega (arith, d.count, d.some), omega (arith, d.count, d.some), omega (arith, d.count, d.some))
 
   abbrev front : List ℕ
   front = pairs E k 1 y
@@ -128,7 +132,8 @@ module _ (E : List ℕ → List ℕ) (e : IsCipher E) (s : State) (held n : ℕ)
       ∙ bytes_add s.left s.right s.sum y 1 (n - 1) E
       ∙ ap (λ (i : ℕ). pairs E k i y) count_is)
 
-  pub fed_state_lem : behind_state (doubles 1 s.left) (doubles 1 s.right) (xor s.sum (sum 1 y)) (n - 1) (drop (32 - held) part) ≡ fed_state s held part
+  pub fed_state_lem :
+      behind_state (doubles 1 s.left) (doubles 1 s.right) (xor s.sum (sum 1 y)) (n - 1) (drop (32 - held) part) ≡ fed_state s held part
   fed_state_lem =
       ap (behind_state (doubles 1 s.left) (doubles 1 s.right) (xor s.sum (sum 1 y)) (n - 1)) (sym behind)
       ∙ state_add s.left s.right s.sum y 1 (n - 1)

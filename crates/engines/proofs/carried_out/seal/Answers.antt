@@ -39,7 +39,10 @@ returns-clause-out_after c =
     let s = otr-masks E e v.q f v.n.now v.a.now v.t long c.requires.lengths.1.0 in
     let added_long = length-added E e v.q f v.n.now v.a.now v.t long in
     let te_is = behind.block_value ∙ ap (λ (u : List ℕ). te E (third u) m) with.u_value in
-    let body_is = behind.out_after v.out.now c.planned_pairs-front.ensures.out_after (omega arith) ∙ ap (λ (u : List ℕ). lay 0 (body E (third u) m) v.out.now) with.u_value in
+    let body_is =
+    behind.out_after v.out.now c.planned_pairs-front.ensures.out_after (omega arith)
+    ∙ ap (λ (u : List ℕ). lay 0 (body E (third u) m) v.out.now) with.u_value in
     c.put_tag.ensures
     ∙ ap₂ (λ (x b : List ℕ). lay (length m) (take v.t x) b) (ap₂ xor te_is with.added_value) body_is
-    ∙ tagged E e (masks E v.q f v.n.now v.a.now v.t) s (added E v.q f v.n.now v.a.now v.t) added_long v.t c.requires.lengths.1.1 m v.out.now c.requires.room
+    ∙ tagged E e (masks E v.q f v.n.now v.a.now v.t) s (added E v.q f v.n.now v.a.now v.t) added_long
+    v.t c.requires.lengths.1.1 m v.out.now c.requires.room
