@@ -1,14 +1,14 @@
 -- `engines::seal_planned` meets its promise. Assumes nothing.
-use Rattle.std.proofs.Common.{◌≤◌, ℕ, ◌+◌, length, refl, sym, ap, subst, ◌∙◌, arith}
+use Rattle.std.proofs.Common.{◌≤◌, ℕ, ◌+◌, length, refl, sym, ap, ◌∙◌, arith}
 use Rattle.std.proofs.lemmas.Result.{err_from_is_err_and}
+use Rattle.aes.specs.Under.{cipher_under}
 use Rattle.mode.specs.Data.{with_data}
-use Rattle.mode.specs.Edition.{edition_of}
+use Rattle.mode.specs.declared.edition.Form.TheVariants.{Parallel}
+use Rattle.mode.specs.declared.edition.Edition.TheVariants.{V3}
 use Rattle.mode.proofs.Counts.{pairs_are}
 use Rattle.mode.proofs.Runs.{length-from_inputs}
 use Rattle.link.specs.Answers.{done}
-use Rattle.link.specs.Prepared.{cipher_of}
-use Rattle.link.specs.declared.prepared.Own.{Own}
-use Rattle.link.proofs.Entries.{looked_at, seal_admitted, rounds_in, one_at_most, own_seals}
+use Rattle.link.proofs.Entries.{looked_at, seal_admitted, one_at_most, own_seals}
 use Rattle.engines.specs.Promises.{SealsPlanned}
 use Rattle.engines.proofs.Sealings.{stopped, not_accepted, is_accepted}
 use Rattle.engines.proofs.seal_planned.Goals as goal
@@ -31,13 +31,8 @@ returns-then-not-accepted c =
     let judged = rw c.pairs_of.ensures at c.accepted.ensures in
     not_accepted _ _ _ _ _ _ _ come c.accepted.result c.if-not-accepted.true judged
 
-pub own_record-own-requires-clause-known : goal.own_record-own-requires-clause-known
-own_record-own-requires-clause-known c = (seal_admitted _ _ c.known_key-known.ensures _ _ _ _ _ _ c.in_ok-length.ensures).0.0.known
-
-pub seal-ran-requires-clause-round_count : goal.seal-ran-requires-clause-round_count
-seal-ran-requires-clause-round_count c =
-    let known = (seal_admitted _ _ c.known_key-known.ensures _ _ _ _ _ _ c.in_ok-length.ensures).0.0.known in
-    subst (λ (o : Own). (10 ≤ o.key.rounds) × (o.key.rounds ≤ 14)) (sym c.own_record-own.ensures) (rounds_in c.args.key.now known)
+pub own_cipher-e-requires : goal.own_cipher-e-requires
+own_cipher-e-requires c = (seal_admitted _ _ c.known_key-known.ensures _ _ _ _ _ _ c.in_ok-length.ensures).0.0.known
 
 pub seal-ran-requires-clause-lengths : goal.seal-ran-requires-clause-lengths
 seal-ran-requires-clause-lengths c =
@@ -50,9 +45,8 @@ seal-ran-requires-clause-room c = (seal_admitted _ _ c.known_key-known.ensures _
 pub overflow_add-result : goal.overflow_add-result
 overflow_add-result c =
     let v = c.args in
-    let own = c.own_record-own in
-    let first = subst (λ (o : Own). o.runs ≤ 1) (sym own.ensures) (one_at_most (with_data v.ad.now)) in
-    let ran = length-from_inputs (cipher_of own.result.key) own.result.key.zero (edition_of 3 0) v.nonce.now v.ad.now v.tag v.message.now in
+    let first : c.own_mask-runs.result.runs ≤ 1 = rw c.own_mask-runs.ensures.runs_value (one_at_most (with_data v.ad.now)) in
+    let ran = length-from_inputs (cipher_under c.own_cipher-e.result) c.own_mask-runs.result.value (V3 Parallel) v.nonce.now v.ad.now v.tag v.message.now in
     omega (arith, first, ran)
 
 pub returns : goal.returns
@@ -62,6 +56,7 @@ returns c =
     let known = (seal_admitted _ _ c.known_key-known.ensures _ _ _ _ _ _ c.in_ok-length.ensures).0.0.known in
     let come = sym (c.in_ok-length.ensures ∙ looked_at _ _ c.known_key-known.ensures _ _ _ _) in
     let judged = rw c.pairs_of.ensures at c.accepted.ensures in
-    let runs_are = ap (λ (k : ℕ). done c.in_ok-length.length (c.own_record-own.result.runs + k)) c.seal-ran.ensures.runs_value in
+    let mask = c.own_mask-runs in
+    let runs_are = ap (λ (k : ℕ). done c.in_ok-length.length (mask.result.runs + k)) c.seal-ran.ensures.runs_value in
     is_accepted _ _ _ _ _ _ _ come c.accepted.result c.if-not-accepted.false judged _ _
-    (own_seals v.key.now known 3 0 v.nonce.now v.ad.now v.tag _ c.own_record-own.ensures _ _ refl v.message.now v.out.now _ _ (runs_are, c.seal-ran.ensures.out_after))
+    (own_seals v.key.now known 3 0 (V3 Parallel) refl v.nonce.now v.ad.now v.tag _ _ _ c.own_cipher-e.ensures mask.ensures.block_value mask.ensures.runs_value _ _ refl v.message.now v.out.now _ _ (runs_are, c.seal-ran.ensures.out_after))
