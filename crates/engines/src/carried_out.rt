@@ -51,11 +51,11 @@ fn planned_pairs(e: &Cipher, u: [u8; 16], m: &[u8], plan: &[u8], out: &mut [u8])
 }
 
 // Seals as `passes::seal` does in edition 3 with parallel data, by a plan.
-pub fn seal(
+pub fn seal<'a>(
     e: &Cipher,
     q: [u8; 16],
-    n: &[u8],
-    a: &[u8],
+    n: &'a [u8],
+    a: &'a [u8],
     m: &[u8],
     t: usize,
     plan: &[u8],

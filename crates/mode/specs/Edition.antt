@@ -1,7 +1,6 @@
 -- What a call names: its edition of AES-OTR, and in the third its form; and their numbers in a call (document 02, wishes 1 and 7).
 use Rattle.std.specs.Prelude.{ℕ, zero, suc}
 use Rattle.mode.specs.Form.{Form, Parallel, form_of}
-
 -- AES-OTR v1 (source document 003), here with parallel data alone, and v3.1 (source document 000) in a form
 pub use Rattle.mode.specs.declared.edition.Edition.{Edition}
 pub use Rattle.mode.specs.declared.edition.Edition.TheVariants.{V1, V3}

@@ -1,6 +1,5 @@
 -- The two forms of associated data (source document 000, section 1.1), and their numbers in a call (document 02, wish 1).
 use Rattle.std.specs.Prelude.{ℕ, zero, suc}
-
 pub use Rattle.mode.specs.declared.edition.Form.{Form}
 pub use Rattle.mode.specs.declared.edition.Form.TheVariants.{Parallel, Serial}
 

@@ -34,7 +34,6 @@ struct Behind {
     sum: [u8; 16],
 }
 
-#[tactic(auto, unfolding(lists::specs::Zeros::zeros))]
 // The first held bytes of kept, and more behind them; then zeros, so that no byte stays that is not kept.
 fn join(kept: [u8; 32], held: usize, more: &[u8]) -> [u8; 32]
     requires { held + length more.now ≤ 32 }

@@ -16,7 +16,7 @@ ghost use Rattle.sealer.specs.Sealers.{standing, begun_by, fed_by, ended as ende
 ghost use Rattle.sealer.specs.Promises.{StepBy, beginning, Feeds, Ends};
 
 use aes::RoundKeys;
-use associated::Settings;
+use associated::{SealsWith, Settings};
 use joined::{Cipher, Ran};
 use link::{Answer, Done};
 use mode::{Edition, Form};
@@ -82,13 +82,13 @@ pub fn begin(form: usize, key: &[u8], nonce: &[u8], ad: &[u8], tag: usize) -> St
 
 // A beginning whose checks have passed, under the cipher e and from the first mask q, whoever made them; `before` is how many times the
 // cipher ran for q.
-fn start(
+fn start<'a>(
     form: usize,
     e: &Cipher,
     q: [u8; 16],
     before: usize,
-    nonce: &[u8],
-    ad: &[u8],
+    nonce: &'a [u8],
+    ad: &'a [u8],
     tag: usize,
 ) -> Step
     requires lengths { (1 ≤ length nonce.now) × ((length nonce.now ≤ 15) × (tag ≤ 16)) }
@@ -102,10 +102,11 @@ fn start(
         tag,
     };
     let Ran { value: with, runs } = associated::seals_with(e, q, &settings);
+    let SealsWith { u, added } = with;
     let RoundKeys { rounds, words } = e.round_keys();
     let state = State {
-        left: with.u,
-        right: block::triple(with.u),
+        left: u,
+        right: block::triple(u),
         sum: lists::blank(),
         kept: lists::blank(),
     };
@@ -113,7 +114,7 @@ fn start(
         rounds,
         words,
         state,
-        added: with.added,
+        added,
         tag,
         fed: 0,
     };

@@ -1,5 +1,5 @@
 -- `sealer::begin` meets its promise. Assumes nothing.
-use Rattle.std.proofs.Common.{◌≤◌, Err, sym, ap, subst, ◌∙◌}
+use Rattle.std.proofs.Common.{Err, ap, ◌∙◌}
 use Rattle.mode.specs.Data.{with_data}
 use Rattle.link.proofs.Entries.{one_at_most}
 use Rattle.sealer.specs.declared.Sealer.{Sealer}
@@ -27,11 +27,11 @@ pub start-requires-clause-ad_len_bound : goal.start-requires-clause-ad_len_bound
 start-requires-clause-ad_len_bound c =
     let v = c.args in
     let called = begin_fits v.form v.key.now v.nonce.now v.ad.now v.tag c.known_key-known.ensures _ c.in_default.ensures in
-    (called.data_most, rw c.own_mask.ensures.runs_value (one_at_most (with_data v.ad.now)))
+    (called.data_most, rw c.own_mask-runs.ensures.runs_value (one_at_most (with_data v.ad.now)))
 
 pub returns : goal.returns
 returns c =
     let v = c.args in
-    let mask = c.own_mask.ensures in
+    let mask = c.own_mask-runs.ensures in
     c.start.ensures
     ∙ begin_passed v.form v.key.now v.nonce.now v.ad.now v.tag c.known_key-known.ensures _ c.in_default.ensures _ _ _ c.own_cipher-e.ensures mask.block_value mask.runs_value

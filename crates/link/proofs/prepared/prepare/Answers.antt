@@ -17,18 +17,18 @@ pub returns-in_default : goal.returns-in_default
 unfolding preparation
 returns-in_default c =
     let key = c.args.key.now in
-    let unknown : known_key (length key) ≡ false = unknown_size (length key) (refused key (sym c.expand.ensures ∙ c.in_default.is)) in
+    let unknown : known_key (length key) ≡ false = unknown_size (length key) (refused key (sym c.expand.ensures.value ∙ c.in_default.is)) in
     ap₂ (λ (w z : List ℕ). record { answer = Err Key; key = record { rounds = 0; words = w; zero = z } }) c.blank.ensures c.blank-in_default.ensures
     ∙ sym (ap (λ (b : Bool). prepared_if b key) unknown)
 
 pub new-e-requires : goal.new-e-requires
-new-e-requires c = (keys_are c.args.key.now _ (sym c.expand.ensures ∙ c.in-Some.is)).1
+new-e-requires c = (keys_are c.args.key.now _ (sym c.expand.ensures.value ∙ c.in-Some.is)).1
 
 pub returns : goal.returns
 unfolding preparation
 returns c =
     let key = c.args.key.now in
-    let some = sym c.expand.ensures ∙ c.in-Some.is in
+    let some = sym c.expand.ensures.value ∙ c.in-Some.is in
     let known : known_key (length key) ≡ true = sym (some_known (length key)) ∙ ap is_some (accepted key _ some).1.known in
     let own = (keys_are key _ some).0 in
     let mask = c.first_q-runs.ensures in

@@ -3,7 +3,7 @@ use Rattle.std.proofs.Common.{arith}
 use Rattle.sealer.proofs.Verdicts.{keeps_most}
 use Rattle.sealer.proofs.Sealer.give_rest.Goals as goal
 
-pub end-runs-requires-clause-held_bound : goal.end-runs-requires-clause-held_bound
-end-runs-requires-clause-held_bound c =
+pub end-runs-requires : goal.end-runs-requires
+end-runs-requires c =
     let most = keeps_most c.args.self.fed in
-    (omega arith, (omega arith, omega arith))
+    record { held_bound = (omega arith, (omega arith, omega arith)) }

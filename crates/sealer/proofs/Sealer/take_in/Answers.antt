@@ -44,9 +44,9 @@ returns-then-n-eq0 c =
       sym (ap (λ (n : ℕ). lay 0 (pairs E k n y) c.args.out.now) none-due ∙ front_none c.args.out.now),
     )
 
-pub feed-requires-clause-held_bound : goal.feed-requires-clause-held_bound
-feed-requires-clause-held_bound c =
+pub feed-runs-requires : goal.feed-runs-requires
+feed-runs-requires c =
     let v = c.args in
     let most = keeps_most v.self.fed in
     let due = ap (λ (n : ℕ). pairs_of (n + length v.part.now)) c.kept-held.ensures in
-    (omega arith, (c.pairs_of-n.ensures, (omega arith, omega (arith, due))))
+    record { held_bound = (omega arith, (c.pairs_of-n.ensures, (omega arith, omega (arith, due)))) }
