@@ -47,11 +47,15 @@ returns-in-V1 c =
     let u = c.args.u in
     let bytes : Bytes u = λ i. let byte : Fits w8 (get_or u i 0) = search rules in byte.fits in
     let start = c.new.ensures in
-    rw (c.in-V1.is, start.first_value.0, start.first_value.1, start.step_value.0, start.step_value.1)
-    (rw (c.xor.ensures, c.double-four.ensures, c.double-two.ensures, c.triple-three.ensures) (first-carries u (search rules) bytes))
+    let four_is : c.double-four.result ≡ double (double u) = c.double-four.ensures ∙ ap double c.double-two.ensures in
+    let left_is = start.first_value.0 ∙ four_is in
+    let right_is = start.first_value.1 ∙ c.xor.ensures ∙ ap (λ (x : List ℕ). xor x u) four_is in
+    let step_is = start.step_value.1 ∙ c.triple-three.ensures in
+    rw (c.in-V1.is, left_is, right_is, start.step_value.0, step_is) (first-carries u (search rules) bytes)
 
 pub returns-in-V3 : goal.returns-in-V3
 returns-in-V3 c =
     let start = c.new-in-V3.ensures in
-    rw (c.in-V3.is, start.first_value.0, start.first_value.1, start.step_value.0, start.step_value.1)
-    (rw (c.triple-three.ensures, c.blank.ensures) (third-carries c.args.u (search rules)))
+    let right_is = start.first_value.1 ∙ c.triple-three.ensures in
+    let step_is = start.step_value.1 ∙ c.blank.ensures in
+    rw (c.in-V3.is, start.first_value.0, right_is, start.step_value.0, step_is) (third-carries c.args.u (search rules))
