@@ -1,11 +1,16 @@
 // Numbers as the programs are told them.
 #![tactic(auto)]
 
-ghost use Rattle.std.specs.Prelude.{◌≤◌, IfSome};
+ghost use Rattle.std.specs.Prelude.{◌≤◌, length, IfSome};
+ghost use Rattle.std.specs.Option.{SomeIff};
+ghost use Rattle.std.specs.Str.Parse.{IsNumeral, digits_value};
 
 // The number that one to five decimal digits stand for, up to 65535. Zeros may stand in front.
 pub fn decimal(digits: &[u8]) -> Option<usize>
-    ensures { IfSome result (λ value. value ≤ 65535) }
+    ensures value { SomeIff result
+        (IsNumeral 10 digits.now × (length digits.now ≤ 5) × (digits_value 10 digits.now ≤ 65535))
+        (digits_value 10 digits.now) }
+    ensures bound { IfSome result (λ value. value ≤ 65535) }
 {
     if digits.is_empty() || 5 < digits.len() {
         return None;
