@@ -31,6 +31,7 @@ use Rattle.std.specs.Prelude.{Option, Some, Ok, Err, option_map, unwrap_or}
 use Rattle.std.proofs.Math.Nat.{zero-add}
 use Rattle.link.specs.Answers.{Answer, done}
 use Rattle.link.specs.Checks.{Check, known_key, known_rounds, call_check, seal_next, open_next}
+use Rattle.link.specs.Keys.{StandsFor}
 use Rattle.link.specs.Prepared.{cipher_of, record_of}
 use Rattle.link.specs.Promises.{sealing, seal_runs, open_runs, SealsBy, opened_as, OpensBy, sealing_with, seal_runs_with, open_runs_with}
 use Rattle.link.specs.declared.answer.Refusal.{Refusal}
@@ -63,12 +64,12 @@ module _ (edition form : ℕ) {k known : Bool} (same : k ≡ known) (nonce t ad 
   open_admitted s o n e = sure (open_verdict edition form known nonce t ad s o) n (sym (e ∙ looked_at (open_next t s o)))
 
 -- what the checks came to, and the runs and the bytes by other names
-pub come_to_seal : (c : Check) (i : ℕ) → c ≡ Ok i → (j k : ℕ) (bytes bytes' out : List ℕ) (r : Answer) (after : List ℕ)
+come_to_seal : (c : Check) (i : ℕ) → c ≡ Ok i → (j k : ℕ) (bytes bytes' out : List ℕ) (r : Answer) (after : List ℕ)
     → j ≡ k → bytes ≡ bytes' → SealsBy (Ok i) j bytes out r after → SealsBy c k bytes' out r after
 come_to_seal c i come j k bytes bytes' out r after runs same p =
     subst (λ (x : Check). SealsBy x k bytes' out r after) (sym come) (p.0 ∙ ap (done i) runs, p.1 ∙ ap (λ (b : List ℕ). lay 0 b out) same)
 
-pub come_to_open : (c : Check) (i : ℕ) → c ≡ Ok i → (j k : ℕ) (seal seal' : List ℕ → List ℕ) (s out : List ℕ) (r : Answer) (after : List ℕ)
+come_to_open : (c : Check) (i : ℕ) → c ≡ Ok i → (j k : ℕ) (seal seal' : List ℕ → List ℕ) (s out : List ℕ) (r : Answer) (after : List ℕ)
     → j ≡ k → seal ≡ seal' → OpensBy (Ok i) j seal s out r after → OpensBy c k seal' s out r after
 come_to_open c i come j k seal seal' s out r after runs same (o, a, is, b) =
     subst (λ (x : Check). OpensBy x k seal' s out r after) (sym come)
@@ -125,59 +126,63 @@ module _ (key : List ℕ) (known : known_key (length key) ≡ true) where
   pub under_record : {A : Type 0} (f : (List ℕ → List ℕ) → List ℕ → A) (p : Prepared) (q : List ℕ) → p ≡ record_of key q → f (cipher_of p) p.zero ≡ f (aes key) q
   under_record f p q is = ap (λ (x : Prepared). f (cipher_of x) x.zero) is ∙ ap (λ (E : List ℕ → List ℕ). f E q) cipher_is
 
-  -- under the cipher of its own a call with a raw key seals and opens as under the key, and its runs and those for the first mask are the
-  -- key's. c is what the checks came to, i bytes
-  module _
-      (edition form : ℕ) (f : Edition) (f_is : f ≡ edition_of edition form) (nonce ad : List ℕ) (t : ℕ) (e : RoundKeys) (q : List ℕ) (n : ℕ)
-      (is : e ≡ expanded key) (q_is : q ≡ first_q (cipher_under e) (with_data ad)) (n_is : n ≡ length (q_inputs (with_data ad)))
-    where
-      E_is : cipher_under e ≡ aes key
-      E_is = ap cipher_under is ∙ cipher_is
+  -- the cipher and the first mask of its own that a call makes of a raw key stand for the key
+  module _ (ad : List ℕ) (e : RoundKeys) (q : List ℕ) (n : ℕ) (is : e ≡ expanded key)
+      (q_is : q ≡ first_q (cipher_under e) (with_data ad)) (n_is : n ≡ length (q_inputs (with_data ad))) where
+    E_is : cipher_under e ≡ aes key
+    E_is = ap cipher_under is ∙ cipher_is
 
-      under_key : {A : Type 0} (g : Edition → (List ℕ → List ℕ) → List ℕ → A)
-          → g f (cipher_under e) q ≡ g (edition_of edition form) (aes key) (first_q (aes key) (with_data ad))
-      under_key g =
-          ap (λ (h : Edition). g h (cipher_under e) q) f_is
-          ∙ ap₂ (g (edition_of edition form)) E_is (q_is ∙ ap (λ (E : List ℕ → List ℕ). first_q E (with_data ad)) E_is)
+    under_key : {A : Type 0} (f : (List ℕ → List ℕ) → List ℕ → A) → f (cipher_under e) q ≡ f (aes key) (first_q (aes key) (with_data ad))
+    under_key f = ap₂ f E_is (q_is ∙ ap (λ (E : List ℕ → List ℕ). first_q E (with_data ad)) E_is)
 
-      sealing_is : otr_from (cipher_under e) q f nonce ad t ≡ sealing edition form key nonce ad t
-      sealing_is = under_key (λ h E x. otr_from E x h nonce ad t) ∙ own_otr (aes key) (edition_of edition form) nonce t ad
+    pub own_stands : StandsFor e q n ad (λ edition form. sealing edition form key) (λ edition form. seal_runs edition form key)
+        (λ edition form. open_runs edition form key)
+    own_stands =
+        record {
+          runs_most = rw n_is (one_at_most (with_data ad));
+          seals_alike = λ edition form nonce t.
+              under_key (λ E x. otr_from E x (edition_of edition form) nonce ad t) ∙ own_otr (aes key) (edition_of edition form) nonce t ad;
+          seal_runs_alike = λ edition form nonce t m.
+              ap₂ ◌+◌ n_is (under_key (λ E x. length (from_inputs E x (edition_of edition form) nonce ad t m)))
+              ∙ own_runs (aes key) (edition_of edition form) nonce t ad m;
+          open_runs_alike = λ edition form nonce t s.
+              ap₂ ◌+◌ n_is (under_key (λ E x. length (found_from_inputs E x (edition_of edition form) nonce ad t s)))
+              ∙ own_found_runs (aes key) (edition_of edition form) nonce t ad s;
+        }
 
-      pub own_seals : (c : Check) (i : ℕ) → c ≡ Ok i → (m out : List ℕ) (r : Answer) (after : List ℕ)
-          → SealsBy (Ok i) (n + length (from_inputs (cipher_under e) q f nonce ad t m)) (otr_from (cipher_under e) q f nonce ad t m) out r after
-          → SealsBy c (seal_runs edition form key nonce ad t m) (sealing edition form key nonce ad t m) out r after
-      own_seals c i come m out r after p =
-          let runs_are = ap₂ ◌+◌ n_is (under_key (λ h E x. length (from_inputs E x h nonce ad t m))) ∙ own_runs (aes key) (edition_of edition form) nonce t ad m in
-          come_to_seal c i come _ _ _ _ out r after runs_are (ap (λ (seal : List ℕ → List ℕ). seal m) sealing_is) p
+-- a record's own, with no runs, stand for the record
+pub record_stands : (p : Prepared) (e : RoundKeys) (ad : List ℕ) → e ≡ record { rounds = p.rounds; words = p.words }
+    → StandsFor e p.zero 0 ad (λ edition form. sealing_with edition form p) (λ edition form. seal_runs_with edition form p)
+    (λ edition form. open_runs_with edition form p)
+record_stands p e ad is =
+    record {
+      runs_most = omega arith;
+      seals_alike = λ edition form nonce t. ap (λ (k : RoundKeys). otr_from (cipher_under k) p.zero (edition_of edition form) nonce ad t) is;
+      seal_runs_alike = λ edition form nonce t m.
+          zero-add _ ∙ ap (λ (k : RoundKeys). length (from_inputs (cipher_under k) p.zero (edition_of edition form) nonce ad t m)) is;
+      open_runs_alike = λ edition form nonce t s.
+          zero-add _ ∙ ap (λ (k : RoundKeys). length (found_from_inputs (cipher_under k) p.zero (edition_of edition form) nonce ad t s)) is;
+    }
 
-      pub own_opens : (c : Check) (i : ℕ) → c ≡ Ok i → (s out : List ℕ) (r : Answer) (after : List ℕ)
-          → OpensBy (Ok i) (n + length (found_from_inputs (cipher_under e) q f nonce ad t s)) (otr_from (cipher_under e) q f nonce ad t) s out r after
-          → OpensBy c (open_runs edition form key nonce ad t s) (sealing edition form key nonce ad t) s out r after
-      own_opens c i come s out r after p =
-          let runs_are = ap₂ ◌+◌ n_is (under_key (λ h E x. length (found_from_inputs E x h nonce ad t s))) ∙ own_found_runs (aes key) (edition_of edition form) nonce t ad s in
-          come_to_open c i come _ _ _ _ s out r after runs_are sealing_is p
+-- ---- under round keys and a first mask that stand for a key a call seals and opens as under the key. c is what the checks came to, i bytes
+module _ {k : RoundKeys} {q : List ℕ} {n : ℕ} {ad : List ℕ} {seals : ℕ → ℕ → List ℕ → List ℕ → ℕ → List ℕ → List ℕ}
+    {seal-runs open-runs : ℕ → ℕ → List ℕ → List ℕ → ℕ → List ℕ → ℕ} (h : StandsFor k q n ad seals seal-runs open-runs) (edition form : ℕ)
+    (f : Edition) (f_is : f ≡ edition_of edition form) (nonce : List ℕ) (t : ℕ) where
+  pub stands_seals : (c : Check) (i : ℕ) → c ≡ Ok i → (m out : List ℕ) (r : Answer) (after : List ℕ)
+      → SealsBy (Ok i) (n + length (from_inputs (cipher_under k) q f nonce ad t m)) (otr_from (cipher_under k) q f nonce ad t m) out r after
+      → SealsBy c (seal-runs edition form nonce ad t m) (seals edition form nonce ad t m) out r after
+  stands_seals c i come m out r after p =
+      let same = ap (λ (g : Edition). otr_from (cipher_under k) q g nonce ad t m) f_is ∙ ap (λ (g : List ℕ → List ℕ). g m) (h.seals_alike edition form nonce t) in
+      let runs = ap (λ (g : Edition). n + length (from_inputs (cipher_under k) q g nonce ad t m)) f_is ∙ h.seal_runs_alike edition form nonce t m in
+      come_to_seal c i come _ _ _ _ out r after runs same p
 
--- under the cipher of a record p it seals and opens as under the record
-module _
-    (edition form : ℕ) (f : Edition) (f_is : f ≡ edition_of edition form) (nonce ad : List ℕ) (t : ℕ) (p : Prepared) (e : RoundKeys)
-    (is : e ≡ record { rounds = p.rounds; words = p.words })
-  where
-    under_it : {A : Type 0} (g : Edition → (List ℕ → List ℕ) → A) → g f (cipher_under e) ≡ g (edition_of edition form) (cipher_of p)
-    under_it g = ap (λ (h : Edition). g h (cipher_under e)) f_is ∙ ap (λ (k : RoundKeys). g (edition_of edition form) (cipher_under k)) is
-
-    pub record_seals : (c : Check) (i : ℕ) → c ≡ Ok i → (m out : List ℕ) (r : Answer) (after : List ℕ)
-        → SealsBy (Ok i) (0 + length (from_inputs (cipher_under e) p.zero f nonce ad t m)) (otr_from (cipher_under e) p.zero f nonce ad t m) out r after
-        → SealsBy c (seal_runs_with edition form p nonce ad t m) (sealing_with edition form p nonce ad t m) out r after
-    record_seals c i come m out r after =
-        come_to_seal c i come _ _ _ _ out r after (zero-add _ ∙ under_it (λ h E. length (from_inputs E p.zero h nonce ad t m)))
-        (under_it (λ h E. otr_from E p.zero h nonce ad t m))
-
-    pub record_opens : (c : Check) (i : ℕ) → c ≡ Ok i → (s out : List ℕ) (r : Answer) (after : List ℕ)
-        → OpensBy (Ok i) (0 + length (found_from_inputs (cipher_under e) p.zero f nonce ad t s)) (otr_from (cipher_under e) p.zero f nonce ad t) s out r after
-        → OpensBy c (open_runs_with edition form p nonce ad t s) (sealing_with edition form p nonce ad t) s out r after
-    record_opens c i come s out r after =
-        come_to_open c i come _ _ _ _ s out r after (zero-add _ ∙ under_it (λ h E. length (found_from_inputs E p.zero h nonce ad t s)))
-        (under_it (λ h E. otr_from E p.zero h nonce ad t))
+  pub stands_opens : (c : Check) (i : ℕ) → c ≡ Ok i → (s out : List ℕ) (r : Answer) (after : List ℕ)
+      → OpensBy (Ok i) (n + length (found_from_inputs (cipher_under k) q f nonce ad t s)) (otr_from (cipher_under k) q f nonce ad t) s out r after
+      → OpensBy c (open-runs edition form nonce ad t s) (seals edition form nonce ad t) s out r after
+  stands_opens c i come s out r after p =
+      let same = ap (λ (g : Edition). otr_from (cipher_under k) q g nonce ad t) f_is ∙ h.seals_alike edition form nonce t in
+      let runs = ap (λ (g : Edition). n + length (found_from_inputs (cipher_under k) q g nonce ad t s)) f_is ∙ h.open_runs_alike edition form nonce t s in
+      come_to_open c i come _ _ _ _ s out r after runs same p
 
 -- the round keys that a key has are its own, as many as a cipher takes
 pub keys_are : (key : List ℕ) (k : RoundKeys) → expansion_of key ≡ Some k → (k ≡ expanded key) × ((10 ≤ k.rounds) × (k.rounds ≤ 14))

@@ -8,18 +8,17 @@ ghost use Rattle.link.specs.Promises.{Seals, Opens, SealsWith, OpensWith};
 
 mod answer;
 mod check;
+mod keyed;
 mod parameters;
 mod prepared;
 mod under;
 
 pub use answer::{Answer, Done, Refusal, length, number, runs};
-use associated::Settings;
 pub use check::{call_check, from_to, known_key, known_rounds, seal_check};
-use joined::Ran;
-use mode::Edition;
 pub use parameters::Parameters;
 pub use prepared::{Preparation, Prepared, own_cipher, own_mask, prepare};
 
+#[tactic(auto, unfolding(crate::specs::Promises::Seals))]
 pub fn seal(
     edition: usize,
     form: usize,
@@ -32,28 +31,10 @@ pub fn seal(
 ) -> Answer
     ensures { Seals edition form key.now nonce.now ad.now message.now tag out.old result out.new }
 {
-    let known = check::known_key(key.len());
-    check::seal_check(
-        edition,
-        form,
-        known,
-        nonce.len(),
-        tag,
-        ad.len(),
-        message.len(),
-        out.len(),
-    )?;
-    let e = prepared::own_cipher(key);
-    let Ran { value: q, runs } = prepared::own_mask(&e, ad);
-    let s = Settings {
-        edition: Edition::numbered(edition, form),
-        nonce,
-        ad,
-        tag,
-    };
-    under::seal(&e, q, runs, &s, message, out)
+    keyed::seal(edition, form, &key, nonce, ad, message, tag, out)
 }
 
+#[tactic(auto, unfolding(crate::specs::Promises::Opens))]
 pub fn open(
     edition: usize,
     form: usize,
@@ -66,29 +47,11 @@ pub fn open(
 ) -> Answer
     ensures { Opens edition form key.now nonce.now ad.now sealed.now tag out.old result out.new }
 {
-    let known = check::known_key(key.len());
-    check::open_check(
-        edition,
-        form,
-        known,
-        nonce.len(),
-        tag,
-        ad.len(),
-        sealed.len(),
-        out.len(),
-    )?;
-    let e = prepared::own_cipher(key);
-    let Ran { value: q, runs } = prepared::own_mask(&e, ad);
-    let s = Settings {
-        edition: Edition::numbered(edition, form),
-        nonce,
-        ad,
-        tag,
-    };
-    under::open(&e, q, runs, &s, sealed, out)
+    keyed::open(edition, form, &key, nonce, ad, sealed, tag, out)
 }
 
 // The same two under a prepared key, whoever made it.
+#[tactic(auto, unfolding(crate::specs::Promises::SealsWith))]
 pub fn seal_with(
     edition: usize,
     form: usize,
@@ -101,27 +64,10 @@ pub fn seal_with(
 ) -> Answer
     ensures { SealsWith edition form key nonce.now ad.now message.now tag out.old result out.new }
 {
-    let known = check::known_rounds(key.rounds);
-    check::seal_check(
-        edition,
-        form,
-        known,
-        nonce.len(),
-        tag,
-        ad.len(),
-        message.len(),
-        out.len(),
-    )?;
-    let s = Settings {
-        edition: Edition::numbered(edition, form),
-        nonce,
-        ad,
-        tag,
-    };
-    let e = key.cipher();
-    under::seal(&e, key.zero, 0, &s, message, out)
+    keyed::seal(edition, form, &key, nonce, ad, message, tag, out)
 }
 
+#[tactic(auto, unfolding(crate::specs::Promises::OpensWith))]
 pub fn open_with(
     edition: usize,
     form: usize,
@@ -134,23 +80,5 @@ pub fn open_with(
 ) -> Answer
     ensures { OpensWith edition form key nonce.now ad.now sealed.now tag out.old result out.new }
 {
-    let known = check::known_rounds(key.rounds);
-    check::open_check(
-        edition,
-        form,
-        known,
-        nonce.len(),
-        tag,
-        ad.len(),
-        sealed.len(),
-        out.len(),
-    )?;
-    let s = Settings {
-        edition: Edition::numbered(edition, form),
-        nonce,
-        ad,
-        tag,
-    };
-    let e = key.cipher();
-    under::open(&e, key.zero, 0, &s, sealed, out)
+    keyed::open(edition, form, &key, nonce, ad, sealed, tag, out)
 }

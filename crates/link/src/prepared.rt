@@ -1,5 +1,5 @@
 // A prepared key (document 02, wish 9): what every pass takes of a key, worked out once.
-ghost use Rattle.std.specs.Prelude.{◌≡◌, ◌≤◌, true, length};
+ghost use Rattle.std.specs.Prelude.{◌≡◌, true, length};
 ghost use Rattle.aes.specs.Key.{expanded};
 ghost use Rattle.aes.specs.Under.{cipher_under};
 ghost use Rattle.mode.specs.Data.{first_q, q_inputs, with_data};
@@ -7,7 +7,6 @@ ghost use Rattle.link.specs.Checks.{known_key};
 ghost use Rattle.link.specs.Prepared.{preparation};
 
 use crate::answer::{Answer, Done, Refusal};
-use aes::RoundKeys;
 use field::Sbox;
 use joined::{Cipher, Ran};
 
@@ -18,20 +17,6 @@ pub struct Prepared {
     pub rounds: usize,
     pub words: [u8; 240],
     pub zero: [u8; 16],
-}
-
-impl Prepared {
-    // E under the record, where its round count is one that it may have.
-    pub fn cipher(&self) -> Cipher
-        requires { (10 ≤ self.now.rounds) × (self.now.rounds ≤ 14) }
-        ensures { result ≡ record { rounds = self.now.rounds; words = self.now.words } }
-    {
-        let words = self.words;
-        Cipher::new(RoundKeys {
-            rounds: self.rounds,
-            words,
-        })
-    }
 }
 
 // The answer, done with no bytes written or the refusal 1, and the record.

@@ -1,0 +1,34 @@
+-- `link::keyed::seal` meets its contract: under the cipher of the key it seals as under the key. Assumes nothing.
+use Rattle.std.proofs.Common.{length}
+use Rattle.std.proofs.lemmas.Result.{err_from_is_err_and}
+use Rattle.link.specs.Checks.{seal_next}
+use Rattle.link.proofs.Entries.{seal_refused, seal_admitted, stands_seals}
+use Rattle.link.proofs.keyed.seal.Goals as goal
+
+pub returns-in_err-seal_check : goal.returns-in_err-seal_check
+returns-in_err-seal_check g c =
+    let p = err_from_is_err_and c.from_residual.result c.from_residual.ensures.1 in
+    let next = seal_next c.args.tag (length c.args.message.now) (length c.args.out.now) in
+    rw (p.1, p.2) (seal_refused _ _ c.known-known.ensures _ _ _ next _ c.in_err-seal_check.ensures _ _ _)
+
+pub cipher-e-requires : goal.cipher-e-requires
+cipher-e-requires g c = (seal_admitted _ _ c.known-known.ensures _ _ _ _ _ _ c.in_ok-seal_check.ensures).0.0.known
+
+pub mask-runs-requires-clause-known : goal.mask-runs-requires-clause-known
+mask-runs-requires-clause-known g c = (seal_admitted _ _ c.known-known.ensures _ _ _ _ _ _ c.in_ok-seal_check.ensures).0.0.known
+
+pub invariant_of-s : goal.invariant_of-s
+invariant_of-s g c =
+    let called = (seal_admitted _ _ c.known-known.ensures _ _ _ _ _ _ c.in_ok-seal_check.ensures).0.0 in
+    record { nonce_length = called.nonces; tag_length = called.tags.1 }
+
+pub seal-requires : goal.seal-requires
+seal-requires g c =
+    let fits = (seal_admitted _ _ c.known-known.ensures _ _ _ _ _ _ c.in_ok-seal_check.ensures).0 in
+    record { room = (fits.2, c.mask-runs.ensures.runs_most) }
+
+pub returns : goal.returns
+returns g c =
+    let v = c.args in
+    let passed = (seal_admitted _ _ c.known-known.ensures _ _ _ _ _ _ c.in_ok-seal_check.ensures) in
+    stands_seals c.mask-runs.ensures v.edition v.form _ c.numbered.ensures v.nonce.now v.tag _ _ passed.1 _ _ _ _ c.seal.ensures
