@@ -60,4 +60,4 @@ returns c =
     let runs_are = ap (λ (k : ℕ). done c.in_ok-length.length (mask.result.runs + k)) c.seal-ran.ensures.runs_value in
     is_accepted _ _ _ _ _ _ _ come c.accepted.result c.if-not-accepted.false judged _ _
     (stands_seals (own_stands v.key.now known v.ad.now _ _ _ c.own_cipher-e.ensures mask.ensures.block_value mask.ensures.runs_value) 3 0 (V3 Parallel) refl v.nonce.now v.tag
-      _ _ refl v.message.now v.out.now _ _ (runs_are, c.seal-ran.ensures.out_after))
+    _ _ refl v.message.now v.out.now _ _ (runs_are, c.seal-ran.ensures.out_after))
