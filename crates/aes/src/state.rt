@@ -88,7 +88,7 @@ pub fn mix_columns(s: [[u8; 4]; 4]) -> [[u8; 4]; 4]
     [mix_column(a), mix_column(b), mix_column(c), mix_column(d)]
 }
 
-// Word i of the expanded key.
+// Word i of the expanded key. The index is a plain number with a bound: a type for it would be made and opened again at each use.
 pub fn key_word(w: &[u8; 240], i: usize) -> u32
     requires { i < 60 }
     ensures { little 4 result ≡ word w.now i }

@@ -1,2 +1,3 @@
 pub mod Checks
 pub mod Promises
+pub mod Named

@@ -4,7 +4,7 @@ ghost use Rattle.lists.specs.Same.{same};
 ghost use Rattle.carrying.specs.Checks.{other, old_check, new_check, room_check, passed, of};
 ghost use Rattle.carrying.specs.declared.Side.TheVariants.{Neither, Old, New};
 
-use crate::Side;
+use crate::{Settings, Side};
 use link::Refusal;
 
 // The first check that failed, and its side.
@@ -92,27 +92,36 @@ fn on(side: Side, checks: Result<(), Refusal>) -> Result<(), Stopped>
 // All of them.
 pub fn carry_check(
     edition: usize,
-    form: usize,
-    key: &[u8],
-    nonce: usize,
-    ad: usize,
+    old: &Settings,
     tag: usize,
     sealed: usize,
-    form2: usize,
-    key2: &[u8],
-    nonce2: usize,
-    ad2: usize,
+    new: &Settings,
     room: usize,
     work: usize,
 ) -> Result<(), Stopped>
-    ensures { result ≡ of Old (old_check edition form (length key.now) nonce tag ad sealed) (of New (new_check edition form2 (length key2.now) nonce2 tag ad2) (of Neither (room_check tag sealed room work (not (same key.now key2.now))) passed)) }
+    ensures { result ≡ of Old (old_check edition old.now.form (length old.now.key.now) (length old.now.nonce.now) tag (length old.now.ad.now) sealed) (of New (new_check edition new.now.form (length new.now.key.now) (length new.now.nonce.now) tag (length new.now.ad.now)) (of Neither (room_check tag sealed room work (not (same old.now.key.now new.now.key.now))) passed)) }
 {
-    let old = old_check(edition, form, key.len(), nonce, tag, ad, sealed);
-    on(Side::Old, old)?;
-    let new = new_check(edition, form2, key2.len(), nonce2, tag, ad2);
-    on(Side::New, new)?;
+    let of_old = old_check(
+        edition,
+        old.form,
+        old.key.len(),
+        old.nonce.len(),
+        tag,
+        old.ad.len(),
+        sealed,
+    );
+    on(Side::Old, of_old)?;
+    let of_new = new_check(
+        edition,
+        new.form,
+        new.key.len(),
+        new.nonce.len(),
+        tag,
+        new.ad.len(),
+    );
+    on(Side::New, of_new)?;
     on(
         Side::Neither,
-        room_check(tag, sealed, room, work, key, key2),
+        room_check(tag, sealed, room, work, old.key, new.key),
     )
 }

@@ -114,7 +114,7 @@ impl<W: Write> Desk<W> {
             settings.form,
             settings.key,
             settings.nonce,
-            settings.data,
+            settings.ad,
             request.tag,
         );
         self.sealer = step.sealer;
@@ -140,20 +140,12 @@ impl<W: Write> Desk<W> {
     fn carry(&mut self, request: Carrying) -> bool {
         let buffer = lend(&mut self.output, request.room);
         let work = lend(&mut self.work, request.work);
-        let old = request.old;
-        let new = request.new;
         let carried = carrying::carry(
             request.edition,
-            old.form,
-            old.key,
-            old.nonce,
-            old.data,
+            &request.old,
             request.tag,
             request.sealed,
-            new.form,
-            new.key,
-            new.nonce,
-            new.data,
+            &request.new,
             buffer,
             work,
         );

@@ -1,5 +1,6 @@
 // What a line asks for.
 use crate::fields::{Fields, Room};
+use carrying::Settings;
 use link::Prepared;
 
 // The most bytes of a line, without its line end.
@@ -29,15 +30,6 @@ pub struct Request<'a> {
     pub message: &'a [u8],
     pub tag: usize,
     pub room: Room,
-}
-
-// FORM, KEY, NONCE and DATA of a request under a raw key.
-#[derive(Clone, Copy)]
-pub struct Settings<'a> {
-    pub form: usize,
-    pub key: &'a [u8],
-    pub nonce: &'a [u8],
-    pub data: &'a [u8],
 }
 
 // A request to begin a sealing whose message comes in parts.
@@ -178,12 +170,13 @@ fn parse_strings<'a>(
     })
 }
 
+// FORM, KEY, NONCE and DATA of a request under a raw key.
 fn parse_settings<'a>(fields: &mut Fields<'a>) -> Option<Settings<'a>> {
     Some(Settings {
         form: fields.number()?,
         key: fields.bytes()?,
         nonce: fields.bytes()?,
-        data: fields.bytes()?,
+        ad: fields.bytes()?,
     })
 }
 

@@ -1,5 +1,5 @@
-// Checks 10 and 8, and then 1 to 6 in the order of their numbers. They go by the numbers of the edition and the form, by lengths, and by
-// a prepared key's round count.
+// Checks 10 and 8, and then 1 to 6 in the order of their numbers. They go by the numbers of the edition and the form (`call_check` has an
+// answer for any), by lengths, and by a prepared key's round count. Whether the key is known is handed in: raw and prepared keys differ there.
 ghost use Rattle.std.specs.Prelude.{◌≡◌};
 ghost use Rattle.link.specs.Checks.{from_to as between, known_edition, last_form, known_key, known_rounds, call_check, seal_next, open_next};
 

@@ -1,7 +1,7 @@
 // The sealed link: AES-OTR, sealed and opened in one call each, in edition 3, v3.1 with parallel (form 0) or serial (form 1) associated
 // data, or in edition 1, v1 with parallel data, under a raw key or under a prepared one. No entry point asks anything of its caller; what
 // they promise is in specs/Promises.antt and specs/Prepared.antt. The checks, `own_cipher` and `own_mask` are public for `sealer` and
-// `engines`, which begin as a call with a raw key does.
+// `engines`, which begin as a call with a raw key does. Edition and form are numbers in a call, since any number has its answer (`Seals`).
 #![tactic(auto)]
 
 ghost use Rattle.link.specs.Promises.{Seals, Opens, SealsWith, OpensWith};

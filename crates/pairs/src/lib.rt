@@ -142,6 +142,7 @@ pub fn sum(m: &[u8], n: usize) -> [u8; 16]
     ensures { result ≡ sum_of n m.now }
 {
     let mut s = lists::blank();
+    // by index, as each turn takes the second half of its 32 bytes alone
     for i in 0..n {
         let more = s.xor(block::read_block(m, 32 * i + 16));
         s = more;

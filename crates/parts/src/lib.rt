@@ -18,7 +18,7 @@ use mode::{Edition, Form};
 use pairs::Masks;
 
 // Between two calls: the masks of the next pair, the checksum of the pairs that are out, and the bytes that are kept. How many are kept
-// is not held here: it follows from how many were fed.
+// is not held here: it follows from how many were fed. The fields stand one by one, as sealer's promises name them (`begun_by`, `ended`).
 #[derive(Clone, Copy)]
 pub struct State {
     pub left: [u8; 16],

@@ -52,7 +52,8 @@ fn next_byte(x: [u64; 2]) -> [u64; 2]
     [x[0] * 256 + x[1] / BYTE, x[1] % BYTE * 256]
 }
 
-// The product with itself, for powers of x: a small one begins with zeros, which leave the sum zero and are passed over.
+// The product with itself, for powers of x: a small one begins with zeros, which leave the sum zero and are passed over. How many there
+// are is not known before, so that the loop counts none.
 fn square(a: [u64; 2]) -> [u64; 2]
     ensures { big_of result ≡ product_of (big_of a) (big_of a) }
 {

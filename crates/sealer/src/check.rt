@@ -8,16 +8,11 @@ use link::Refusal;
 fn goes_on(rounds: usize, tag: usize, fed: usize) -> bool
     ensures { result ≡ going_on rounds tag fed }
 {
-    if !link::known_rounds(rounds) {
-        return false;
-    }
-    if !link::from_to(4, 16, tag) {
-        return false;
-    }
-    fed <= 16384
+    link::known_rounds(rounds) && link::from_to(4, 16, tag) && fed <= 16384
 }
 
 // How many bytes are kept once so many are fed.
+#[tactic(auto, using(mode::proofs::Counts::pairs_are))]
 pub fn kept(fed: usize) -> usize
     ensures { result ≡ keeps fed }
 {

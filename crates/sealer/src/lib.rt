@@ -1,6 +1,7 @@
 // Sealing in parts (document 02, wish 3), in edition 3 alone (wish 7): a sealer is begun, is fed the message part by part, and is ended.
 // It goes by value: each call takes the sealer and hands back the one for the next. No call asks anything of its caller, whatever the
 // sealer holds; what they promise is in specs/Promises.antt. There is no opening in parts: plaintext is never handed out before the tag.
+// The form is a number, since any number has its answer (`beginning`).
 #![tactic(auto)]
 
 ghost use Rattle.std.specs.Prelude.{◌≡◌, ◌+◌, ◌*◌, ◌≤◌, length};

@@ -1,4 +1,5 @@
-// Words as their bytes, the lowest first: the compiler reads and writes four bytes in memory, or eight, as one word.
+// Words as their bytes, the lowest first: the compiler reads and writes four bytes in memory, or eight, as one word. Each function is one
+// call of the library, so that a trait over the two widths would be longer than they are.
 #![tactic(auto)]
 
 ghost use Rattle.std.specs.Prelude.{◌≡◌, [], ◌∷◌};
