@@ -12,7 +12,7 @@ use Rattle.lists.proofs.Xor.{xor-append}
 use Rattle.lists.proofs.Zeros.{length-zeros, xor-zeros}
 use Rattle.words.specs.Word.{little}
 use Rattle.words.proofs.Words.{length_big, big_xor, big_above}
-use Rattle.block.specs.Block.{shift, reduced}
+use Rattle.block.specs.Block.{shift, reduced, double}
 use Rattle.block.specs.Wide.{bytes_of}
 
 -- n bytes shifted, with the bytes l behind them: each takes the top bit of the next
@@ -61,6 +61,10 @@ reduced_big p q (suc zero) h =
     xor-append (big 8 p) (big 8 q) (zeros 8) (big 8 0x87) (length_big 8 p ∙ sym (length-zeros 8))
     ∙ ap₂ ◌++◌ (xor-zeros (big 8 p) 8 (omega (arith, length_big 8 p))) (sym (big_xor 8 q 0x87))
 reduced_big p q (suc (suc t)) h = absurd (omega arith)
+
+pub double_big : (a b : ℕ) → a < top * 2 → b < top * 2 → double (big 8 a ++ big 8 b) ≡ big 8 (a % top * 2 + b / top) ++ big 8 (bit_xor (b % top * 2) (a / top * 0x87))
+unfolding double
+double_big a b ha hb = ap₂ reduced (top_bit a ha) (shifted a b ha hb) ∙ reduced_big (a % top * 2 + b / top) (b % top * 2) (a / top) (omega arith)
 
 -- two words have sixteen bytes
 pub length-bytes : (x : List ℕ) → length (bytes_of x) ≡ 16

@@ -1,5 +1,6 @@
 -- What remains of a string from some place on, read as a part block. Assumes nothing.
-use mathlib.Core.Path.{◌≡◌, sym, ap, ap₂, ◌∙◌}
+use mathlib.Core.Path.{◌≡◌, sym, ap, ap₂, subst, ◌∙◌}
+use mathlib.Core.Bool.{Bool}
 use mathlib.Core.List.{List, [], ◌∷◌}
 use Prim.Native.Nat.{ℕ, ◌+◌, ◌-◌}
 use native.Mathlib.Omega.{arith}
@@ -47,3 +48,8 @@ module _ (m : List ℕ) (i : ℕ) where
       → take (length m - (i + 16)) b ≡ drop 16 (drop i m)
   second_filled b hb =
       ap (take (length m - (i + 16))) (hb ∙ ap filled second_whole) ∙ part_filled (drop 16 (drop i m)) (length m - (i + 16)) second_long
+
+-- what a branch gives, said by the test u that picked it: what is written, what goes into the checksum, and the runs
+pub picked : (t u : Bool) → u ≡ t → (written summed : Bool → List ℕ) (runs : Bool → ℕ) (o b : List ℕ) (n : ℕ)
+    → (o ≡ written t) × ((b ≡ summed t) × (n ≡ runs t)) → (o ≡ written u) × ((b ≡ summed u) × (n ≡ runs u))
+picked t u is written summed runs o b n = subst (λ (v : Bool). (o ≡ written v) × ((b ≡ summed v) × (n ≡ runs v))) (sym is)

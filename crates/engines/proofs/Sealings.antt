@@ -4,7 +4,7 @@ use mathlib.Core.Bool.{Bool, true, false}
 use mathlib.Core.List.{List}
 use Prim.Native.Nat.{ℕ}
 use native.Mathlib.Omega.{arith}
-use Rattle.plans.specs.Plan.{Judged}
+use Rattle.plans.specs.Plan.{Accepted, Judged}
 use Rattle.std.specs.Prelude.{Ok, Err}
 use Rattle.link.specs.Answers.{Answer}
 use Rattle.link.specs.Checks.{Check}
@@ -28,3 +28,8 @@ module _ (c : Check) (k : ℕ) (bytes : List ℕ) (pairs : ℕ) (plan out : List
         → SealsBy (Ok n) k bytes out r after → PlannedBy c k bytes pairs plan out r after
     is_accepted true e j r after p = subst (λ (x : Check). PlannedBy x k bytes pairs plan out r after) (sym come) (true, j, p)
     is_accepted false e j r after p = absurd (let z : ◌≡◌ {A = ℕ} 0 1 = cc in omega arith)
+
+-- a plan that is not refused
+pub accepted_so : (b : Bool) (n : ℕ) (plan : List ℕ) → b ≡ true → Judged b n plan → Accepted n plan
+accepted_so true n plan e j = j
+accepted_so false n plan e j = absurd (let z : ◌≡◌ {A = ℕ} 0 1 = cc in omega arith)

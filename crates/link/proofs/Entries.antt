@@ -184,6 +184,19 @@ module _ {k : RoundKeys} {q : List ℕ} {n : ℕ} {ad : List ℕ} {seals : ℕ �
       let runs = ap (λ (g : Edition). n + length (found_from_inputs (cipher_under k) q g nonce ad t s)) f_is ∙ h.open_runs_alike edition form nonce t s in
       come_to_open c i come _ _ _ _ s out r after runs same p
 
+-- so under the cipher and the first mask of its own a call with a raw key seals and opens as under the key
+module _ (key : List ℕ) (known : known_key (length key) ≡ true) (edition form : ℕ) (nonce ad : List ℕ) (t : ℕ) (e : RoundKeys) (q : List ℕ) (n : ℕ)
+    (is : e ≡ expanded key) (q_is : q ≡ first_q (cipher_under e) (with_data ad)) (n_is : n ≡ length (q_inputs (with_data ad))) where
+  pub own_seals : (c : Check) (i : ℕ) → c ≡ Ok i → (m out : List ℕ) (r : Answer) (after : List ℕ)
+      → SealsBy (Ok i) (n + length (from_inputs (cipher_under e) q (edition_of edition form) nonce ad t m)) (otr_from (cipher_under e) q (edition_of edition form) nonce ad t m) out r after
+      → SealsBy c (seal_runs edition form key nonce ad t m) (sealing edition form key nonce ad t m) out r after
+  own_seals = stands_seals (own_stands key known ad e q n is q_is n_is) edition form (edition_of edition form) refl nonce t
+
+  pub own_opens : (c : Check) (i : ℕ) → c ≡ Ok i → (s out : List ℕ) (r : Answer) (after : List ℕ)
+      → OpensBy (Ok i) (n + length (found_from_inputs (cipher_under e) q (edition_of edition form) nonce ad t s)) (otr_from (cipher_under e) q (edition_of edition form) nonce ad t) s out r after
+      → OpensBy c (open_runs edition form key nonce ad t s) (sealing edition form key nonce ad t) s out r after
+  own_opens = stands_opens (own_stands key known ad e q n is q_is n_is) edition form (edition_of edition form) refl nonce t
+
 -- the round keys that a key has are its own, as many as a cipher takes
 pub keys_are : (key : List ℕ) (k : RoundKeys) → expansion_of key ≡ Some k → (k ≡ expanded key) × ((10 ≤ k.rounds) × (k.rounds ≤ 14))
 keys_are key k e =

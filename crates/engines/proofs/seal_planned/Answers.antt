@@ -8,7 +8,7 @@ use Rattle.mode.specs.declared.edition.Edition.TheVariants.{V3}
 use Rattle.mode.proofs.Counts.{pairs_are}
 use Rattle.mode.proofs.Runs.{length-from_inputs}
 use Rattle.link.specs.Answers.{done}
-use Rattle.link.proofs.Entries.{looked_at, seal_admitted, one_at_most, own_stands, stands_seals}
+use Rattle.link.proofs.Entries.{looked_at, seal_admitted, one_at_most, own_seals}
 use Rattle.engines.specs.Promises.{SealsPlanned}
 use Rattle.engines.proofs.Sealings.{stopped, not_accepted, is_accepted}
 use Rattle.engines.proofs.seal_planned.Goals as goal
@@ -59,5 +59,5 @@ returns c =
     let mask = c.own_mask-runs in
     let runs_are = ap (λ (k : ℕ). done c.in_ok-length.length (mask.result.runs + k)) c.seal-ran.ensures.runs_value in
     is_accepted _ _ _ _ _ _ _ come c.accepted.result c.if-not-accepted.false judged _ _
-    (stands_seals (own_stands v.key.now known v.ad.now _ _ _ c.own_cipher-e.ensures mask.ensures.block_value mask.ensures.runs_value) 3 0 (V3 Parallel) refl v.nonce.now v.tag
-    _ _ refl v.message.now v.out.now _ _ (runs_are, c.seal-ran.ensures.out_after))
+    (own_seals v.key.now known 3 0 v.nonce.now v.ad.now v.tag _ _ _ c.own_cipher-e.ensures mask.ensures.block_value mask.ensures.runs_value _ _ refl v.message.now v.out.now _ _
+    (runs_are, c.seal-ran.ensures.out_after))
