@@ -4,7 +4,7 @@
 
 ghost use Rattle.engines.specs.Promises.{SealsPlanned, Plans};
 
-use joined::Ran;
+use joined::{ByTables, Cipher, Ran};
 use link::{Answer, Done, Refusal};
 
 mod carried_out;
@@ -34,7 +34,9 @@ pub fn seal_planned(
     if !plans::accepted(plan, pairs::pairs_of(message.len())) {
         return Err(Refusal::Plan);
     }
-    let e = link::own_cipher(key);
+    let tables = ByTables::new();
+    let keys = link::own_keys(key);
+    let e = Cipher::new(&tables, &keys);
     let Ran { value: q, runs } = link::own_mask(&e, ad);
     let ran = carried_out::seal(&e, q, nonce, ad, message, tag, plan, out);
     Ok(Done {

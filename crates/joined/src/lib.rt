@@ -6,5 +6,6 @@ mod column;
 mod ran;
 mod under;
 
+pub use column::ByTables;
 pub use ran::Ran;
 pub use under::Cipher;

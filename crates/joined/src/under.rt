@@ -6,52 +6,35 @@ use crate::column::ByTables;
 use aes::RoundKeys;
 use std::marker::Model;
 
-// E of the papers, under one key. It holds tables of its own, so that they are copied once for each call.
+// E of the papers, under one key. The tables and the round keys are lent: a call has them once on its stack.
 #[derive(Drop)]
-pub struct Cipher {
-    tables: ByTables,
-    words: [u8; 240],
-    rounds: usize,
+pub struct Cipher<'a> {
+    tables: &'a ByTables,
+    keys: &'a RoundKeys,
 }
 
-impl Model for Cipher {
+impl<'a> Model for Cipher<'a> {
     ghost use Rattle.std.specs.Prelude.{◌≤◌};
     ghost use Rattle.aes.specs.declared.key.RoundKeys.{RoundKeys};
 
     ghost Value = { RoundKeys };
 
-    ghost view = { λ e. record { rounds = e.rounds; words = e.words } };
+    ghost view = { λ e. e.keys.now };
 
-    ghost invariant = { λ e. (10 ≤ e.rounds) × (e.rounds ≤ 14) };
+    ghost invariant = { λ e. (10 ≤ e.keys.now.rounds) × (e.keys.now.rounds ≤ 14) };
 }
 
-impl Cipher {
-    pub fn new(keys: RoundKeys) -> Cipher
-        requires { (10 ≤ keys.rounds) × (keys.rounds ≤ 14) }
-        ensures { result ≡ keys }
+impl<'a> Cipher<'a> {
+    pub fn new(tables: &'a ByTables, keys: &'a RoundKeys) -> Cipher<'a>
+        requires { (10 ≤ keys.now.rounds) × (keys.now.rounds ≤ 14) }
+        ensures { result ≡ keys.now }
     {
-        let words = keys.words;
-        Cipher {
-            tables: ByTables::new(),
-            words,
-            rounds: keys.rounds,
-        }
-    }
-
-    // The round keys, for a call that goes on under them later.
-    pub fn round_keys(&self) -> RoundKeys
-        ensures { result ≡ self.now }
-    {
-        let words = self.words;
-        RoundKeys {
-            rounds: self.rounds,
-            words,
-        }
+        Cipher { tables, keys }
     }
 
     pub fn encrypt(&self, block: [u8; 16]) -> [u8; 16]
         ensures { result ≡ cipher_under self.now block }
     {
-        aes::encrypt(&self.tables, &self.words, self.rounds, block)
+        aes::encrypt(self.tables, &self.keys.words, self.keys.rounds, block)
     }
 }

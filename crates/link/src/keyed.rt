@@ -1,5 +1,5 @@
 // The calls, under any key that they take: raw bytes, or a prepared key, whoever made it.
-ghost use Rattle.std.specs.Prelude.{◌≡◌, Bool, true, List, ℕ, length};
+ghost use Rattle.std.specs.Prelude.{◌≡◌, ◌≤◌, Bool, true, List, ℕ, length};
 ghost use Rattle.aes.specs.Key.{expanded};
 ghost use Rattle.aes.specs.declared.key.RoundKeys.{RoundKeys};
 ghost use Rattle.link.specs.Checks.{known_key, known_rounds, call_check, seal_next, open_next};
@@ -11,7 +11,7 @@ use crate::prepared::Prepared;
 use crate::{check, prepared, under};
 use aes::RoundKeys;
 use associated::Settings;
-use joined::{Cipher, Ran};
+use joined::{ByTables, Cipher, Ran};
 use mode::Edition;
 
 pub trait Key {
@@ -29,10 +29,10 @@ pub trait Key {
     fn known(&self) -> bool
         ensures { result ≡ is_known self.now };
 
-    // E under the key.
-    fn cipher(&self) -> Cipher
+    fn round_keys(&self) -> RoundKeys
         requires { is_known self.now ≡ true }
-        ensures { result ≡ keys self.now };
+        ensures known_as { result ≡ keys self.now }
+        ensures round_count { (10 ≤ result.rounds) × (result.rounds ≤ 14) };
 
     // The first mask of a call with this data, and how many times the cipher ran for it.
     fn mask(&self, e: &Cipher, ad: &[u8]) -> Ran<[u8; 16]>
@@ -56,8 +56,8 @@ impl Key for &[u8] {
         check::known_key(self.len())
     }
 
-    fn cipher(&self) -> Cipher {
-        prepared::own_cipher(self)
+    fn round_keys(&self) -> RoundKeys {
+        prepared::own_keys(self)
     }
 
     fn mask(&self, e: &Cipher, ad: &[u8]) -> Ran<[u8; 16]> {
@@ -80,12 +80,12 @@ impl Key for Prepared {
         check::known_rounds(self.rounds)
     }
 
-    fn cipher(&self) -> Cipher {
+    fn round_keys(&self) -> RoundKeys {
         let words = self.words;
-        Cipher::new(RoundKeys {
+        RoundKeys {
             rounds: self.rounds,
             words,
-        })
+        }
     }
 
     fn mask(&self, _e: &Cipher, _ad: &[u8]) -> Ran<[u8; 16]> {
@@ -117,7 +117,9 @@ pub fn seal<K: Key>(
         message.len(),
         out.len(),
     )?;
-    let e = key.cipher();
+    let tables = ByTables::new();
+    let keys = key.round_keys();
+    let e = Cipher::new(&tables, &keys);
     let Ran { value: q, runs } = key.mask(&e, ad);
     let s = Settings {
         edition: Edition::numbered(edition, form),
@@ -151,7 +153,9 @@ pub fn open<K: Key>(
         sealed.len(),
         out.len(),
     )?;
-    let e = key.cipher();
+    let tables = ByTables::new();
+    let keys = key.round_keys();
+    let e = Cipher::new(&tables, &keys);
     let Ran { value: q, runs } = key.mask(&e, ad);
     let s = Settings {
         edition: Edition::numbered(edition, form),

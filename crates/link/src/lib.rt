@@ -1,6 +1,6 @@
 // The sealed link: AES-OTR, sealed and opened in one call each, in edition 3, v3.1 with parallel (form 0) or serial (form 1) associated
 // data, or in edition 1, v1 with parallel data, under a raw key or under a prepared one. No entry point asks anything of its caller; what
-// they promise is in specs/Promises.antt and specs/Prepared.antt. The checks, `own_cipher` and `own_mask` are public for `sealer` and
+// they promise is in specs/Promises.antt and specs/Prepared.antt. The checks, `own_keys` and `own_mask` are public for `sealer` and
 // `engines`, which begin as a call with a raw key does. Edition and form are numbers in a call, since any number has its answer (`Seals`).
 #![tactic(auto)]
 
@@ -16,7 +16,7 @@ mod under;
 pub use answer::{Answer, Done, Refusal, length, number, runs};
 pub use check::{call_check, from_to, known_key, known_rounds, seal_check};
 pub use parameters::Parameters;
-pub use prepared::{Preparation, Prepared, own_cipher, own_mask, prepare};
+pub use prepared::{Preparation, Prepared, own_keys, own_mask, prepare};
 
 #[tactic(auto, unfolding(crate::specs::Promises::Seals))]
 pub fn seal(

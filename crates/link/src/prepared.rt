@@ -7,8 +7,9 @@ ghost use Rattle.link.specs.Checks.{known_key};
 ghost use Rattle.link.specs.Prepared.{preparation};
 
 use crate::answer::{Answer, Done, Refusal};
+use aes::RoundKeys;
 use field::Sbox;
-use joined::{Cipher, Ran};
+use joined::{ByTables, Cipher, Ran};
 
 // The round count, the round keys, and the first mask of the data pass. `prepare` gives a key's own, the round keys not used zero, and
 // E(zero) for the mask. A call takes whatever a record holds.
@@ -26,14 +27,13 @@ pub struct Preparation {
     pub key: Prepared,
 }
 
-// E under a raw key that is known.
-pub fn own_cipher(key: &[u8]) -> Cipher
+// The round keys of a raw key that is known.
+pub fn own_keys(key: &[u8]) -> RoundKeys
     requires { known_key (length key.now) ≡ true }
     ensures { result ≡ expanded key.now }
 {
     let sbox = Sbox::new();
-    let keys = aes::expand(&sbox, key).unwrap();
-    Cipher::new(keys)
+    aes::expand(&sbox, key).unwrap()
 }
 
 // The first mask that a call under a raw key gives its data pass: E(zero), which that needs only where there is data.
@@ -59,7 +59,8 @@ pub fn prepare(key: &[u8]) -> Preparation
             },
         };
     };
-    let e = Cipher::new(keys);
+    let tables = ByTables::new();
+    let e = Cipher::new(&tables, &keys);
     let Ran { value: zero, runs } = associated::first_q(&e, true);
     let words = keys.words;
     Preparation {

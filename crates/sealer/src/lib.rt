@@ -18,7 +18,7 @@ ghost use Rattle.sealer.specs.Promises.{StepBy, beginning, Feeds, Ends};
 
 use aes::RoundKeys;
 use associated::{SealsWith, Settings};
-use joined::{Cipher, Ran};
+use joined::{ByTables, Cipher, Ran};
 use link::{Answer, Done};
 use mode::{Edition, Form};
 use parts::State;
@@ -76,22 +76,26 @@ pub fn begin(form: usize, key: &[u8], nonce: &[u8], ad: &[u8], tag: usize) -> St
             sealer: ended(),
         };
     }
-    let e = link::own_cipher(key);
+    let tables = ByTables::new();
+    let keys = link::own_keys(key);
+    let e = Cipher::new(&tables, &keys);
     let Ran { value: q, runs } = link::own_mask(&e, ad);
-    start(form, &e, q, runs, nonce, ad, tag)
+    start(form, &e, keys, q, runs, nonce, ad, tag)
 }
 
-// A beginning whose checks have passed, under the cipher e and from the first mask q, whoever made them; `before` is how many times the
-// cipher ran for q.
+// A beginning whose checks have passed, under the cipher e of these round keys and from the first mask q, whoever made them; `before` is
+// how many times the cipher ran for q.
 fn start<'a>(
     form: usize,
     e: &Cipher,
+    keys: RoundKeys,
     q: [u8; 16],
     before: usize,
     nonce: &'a [u8],
     ad: &'a [u8],
     tag: usize,
 ) -> Step
+    requires own { e.now ≡ keys }
     requires lengths { (1 ≤ length nonce.now) × ((length nonce.now ≤ 15) × (tag ≤ 16)) }
     requires ad_len_bound { (length ad.now ≤ 4096) × (before ≤ 1) }
     ensures { result ≡ record { answer = done 0 (before + length (call_inputs (cipher_under e.now) q (V3 (form_of form)) nonce.now ad.now tag)); sealer = begun_by (cipher_under e.now) q e.now.rounds e.now.words form nonce.now ad.now tag } }
@@ -104,7 +108,7 @@ fn start<'a>(
     };
     let Ran { value: with, runs } = associated::seals_with(e, q, &settings);
     let SealsWith { u, added } = with;
-    let RoundKeys { rounds, words } = e.round_keys();
+    let RoundKeys { rounds, words } = keys;
     let state = State {
         left: u,
         right: block::triple(u),
@@ -129,16 +133,14 @@ fn start<'a>(
 }
 
 impl Sealer {
-    // E under the sealer's round keys.
-    fn cipher(&self) -> Cipher
-        requires { (10 ≤ self.now.rounds) × (self.now.rounds ≤ 14) }
+    fn round_keys(&self) -> RoundKeys
         ensures { result ≡ record { rounds = self.now.rounds; words = self.now.words } }
     {
         let words = self.words;
-        Cipher::new(RoundKeys {
+        RoundKeys {
             rounds: self.rounds,
             words,
-        })
+        }
     }
 
     pub fn feed(mut self, part: &[u8], out: &mut [u8]) -> Step
@@ -173,7 +175,9 @@ impl Sealer {
                 sealer: self,
             };
         }
-        let e = self.cipher();
+        let tables = ByTables::new();
+        let keys = self.round_keys();
+        let e = Cipher::new(&tables, &keys);
         let Ran { value: next, runs } = parts::feed(&e, state, held, n, part, out);
         self.state = next;
         Step {
@@ -207,7 +211,9 @@ impl Sealer {
         let state = self.state;
         let added = self.added;
         let held = check::kept(self.fed);
-        let e = self.cipher();
+        let tables = ByTables::new();
+        let keys = self.round_keys();
+        let e = Cipher::new(&tables, &keys);
         let runs = parts::end(&e, state, held, added, tag, out);
         Step {
             answer: Ok(Done {

@@ -11,8 +11,8 @@ returns-in_err-open_check g c =
     let next = open_next c.args.tag (length c.args.sealed.now) (length c.args.out.now) in
     rw (p.1, p.2) (open_refused _ _ c.known-known.ensures _ _ _ next _ c.in_err-open_check.ensures _ _ _ _)
 
-pub cipher-e-requires : goal.cipher-e-requires
-cipher-e-requires g c = (open_admitted _ _ c.known-known.ensures _ _ _ _ _ _ c.in_ok-open_check.ensures).0.0.known
+pub round_keys-keys-requires : goal.round_keys-keys-requires
+round_keys-keys-requires g c = (open_admitted _ _ c.known-known.ensures _ _ _ _ _ _ c.in_ok-open_check.ensures).0.0.known
 
 pub mask-runs-requires-clause-known : goal.mask-runs-requires-clause-known
 mask-runs-requires-clause-known g c = (open_admitted _ _ c.known-known.ensures _ _ _ _ _ _ c.in_ok-open_check.ensures).0.0.known
