@@ -10,7 +10,8 @@ use std::marker::Model;
 #[derive(Drop)]
 pub struct Cipher<'a> {
     tables: &'a ByTables,
-    keys: &'a RoundKeys,
+    words: &'a [u8; 240],
+    rounds: usize,
 }
 
 impl<'a> Model for Cipher<'a> {
@@ -19,9 +20,9 @@ impl<'a> Model for Cipher<'a> {
 
     ghost Value = { RoundKeys };
 
-    ghost view = { λ e. e.keys.now };
+    ghost view = { λ e. record { rounds = e.rounds; words = e.words.now } };
 
-    ghost invariant = { λ e. (10 ≤ e.keys.now.rounds) × (e.keys.now.rounds ≤ 14) };
+    ghost invariant = { λ e. (10 ≤ e.rounds) × (e.rounds ≤ 14) };
 }
 
 impl<'a> Cipher<'a> {
@@ -29,12 +30,16 @@ impl<'a> Cipher<'a> {
         requires { (10 ≤ keys.now.rounds) × (keys.now.rounds ≤ 14) }
         ensures { result ≡ keys.now }
     {
-        Cipher { tables, keys }
+        Cipher {
+            tables,
+            words: &keys.words,
+            rounds: keys.rounds,
+        }
     }
 
     pub fn encrypt(&self, block: [u8; 16]) -> [u8; 16]
         ensures { result ≡ cipher_under self.now block }
     {
-        aes::encrypt(self.tables, &self.keys.words, self.keys.rounds, block)
+        aes::encrypt(self.tables, self.words, self.rounds, block)
     }
 }
