@@ -1,4 +1,4 @@
-// The nonce block of each edition.
+// The nonce block of each edition, of what `Settings` holds one by one: their lengths are asked for here as there.
 ghost use Rattle.std.specs.Prelude.{◌≡◌, ◌≤◌, length};
 ghost use Rattle.block.specs.Block.{pad};
 ghost use Rattle.mode.specs.Nonce.{format as format_of, nonce_block};

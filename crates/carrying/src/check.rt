@@ -1,4 +1,4 @@
-// The checks of both sides, in the order of document 02's wish 8.
+// The checks of both sides, in the order of document 02's wish 8. Edition and forms are numbers, since any has its answer (`Carries`).
 ghost use Rattle.std.specs.Prelude.{◌≡◌, not, ◌≤◌, length};
 ghost use Rattle.lists.specs.Same.{same};
 ghost use Rattle.carrying.specs.Checks.{other, old_check, new_check, room_check, passed, of};

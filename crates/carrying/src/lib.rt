@@ -12,7 +12,7 @@ use link::{Answer, Done};
 
 mod check;
 
-// Which side an answer speaks of.
+// Which side an answer speaks of. No `Option`: `Carries` names the three.
 #[derive(Clone, Copy)]
 pub enum Side {
     Neither,

@@ -5,7 +5,7 @@ ghost use Rattle.console.specs.declared.answer.TheConstants.{MOST_TEXT};
 
 use crate::fields::MOST_ROOM;
 use carrying::{Carried, Side};
-use std::io::Write;
+use std::io::{self, Write};
 
 // The longest that is written at once: two digits a byte of the largest output buffer, four numbers of at most 20 digits with a space
 // behind each, and two bytes more.
@@ -26,8 +26,8 @@ impl<W: Write> Answers<W> {
         }
     }
 
-    // Writes `NUMBER LENGTH RUNS OUTPUT`, and says whether it could be written.
-    pub fn answer(&mut self, answer: link::Answer, output: &[u8]) -> bool
+    // Writes `NUMBER LENGTH RUNS OUTPUT`.
+    pub fn answer(&mut self, answer: link::Answer, output: &[u8]) -> io::Result<()>
         requires { length output.now ≤ MOST_ROOM }
     {
         self.text.clear();
@@ -38,8 +38,8 @@ impl<W: Write> Answers<W> {
         self.end_line()
     }
 
-    // Writes `NUMBER SIDE LENGTH RUNS OUTPUT WORK`, and says whether it could be written.
-    pub fn carried(&mut self, carried: Carried, output: &[u8], work: &[u8]) -> bool
+    // Writes `NUMBER SIDE LENGTH RUNS OUTPUT WORK`.
+    pub fn carried(&mut self, carried: Carried, output: &[u8], work: &[u8]) -> io::Result<()>
         requires output_in_bounds { length output.now ≤ MOST_ROOM }
         requires work_in_bounds { length work.now ≤ MOST_ROOM }
     {
@@ -51,16 +51,14 @@ impl<W: Write> Answers<W> {
         self.text.field(link::runs(answer));
         self.text.hex(output);
         self.text.put(b" ");
-        if !self.write() {
-            return false;
-        }
+        self.write()?;
         self.text.clear();
         self.text.hex(work);
         self.end_line()
     }
 
-    // Writes `NUMBER RUNS ROUNDS WORDS ZERO`, and says whether it could be written.
-    pub fn preparation(&mut self, made: link::Preparation) -> bool {
+    // Writes `NUMBER RUNS ROUNDS WORDS ZERO`.
+    pub fn preparation(&mut self, made: link::Preparation) -> io::Result<()> {
         let answer = made.answer;
         let key = made.key;
         let words = key.words;
@@ -75,26 +73,27 @@ impl<W: Write> Answers<W> {
         self.end_line()
     }
 
-    // Writes `bad line N`, and says whether it could be written.
-    pub fn bad_line(&mut self, number: u64) -> bool {
+    // Writes `bad line N`.
+    pub fn bad_line(&mut self, number: u64) -> io::Result<()> {
         self.text.clear();
         self.text.put(b"bad line ");
         self.text.number(number);
         self.end_line()
     }
 
-    fn end_line(&mut self) -> bool
+    fn end_line(&mut self) -> io::Result<()>
         requires { self.old.text.end < MOST_TEXT }
     {
         self.text.put(b"\n");
         self.write()
     }
 
-    fn write(&mut self) -> bool {
-        self.to.write_all(self.text.as_slice()).is_ok()
+    fn write(&mut self) -> io::Result<()> {
+        self.to.write_all(self.text.as_slice())
     }
 }
 
+// By hand: the number of a side is the console's alone.
 fn side_number(side: Side) -> usize {
     match side {
         Side::Neither => 0,

@@ -5,7 +5,7 @@ use crate::answer::Answers;
 use crate::fields::{MOST_ROOM, Room};
 use crate::request::{self, Beginning, Carrying, Feeding, Key, Line, Planned, Planning, Request};
 use sealer::Sealer;
-use std::io::Write;
+use std::io::{self, Write};
 
 // What every byte of an output buffer is before the call, so that the answer shows which bytes the call left alone.
 const UNTOUCHED: u8 = 0xa5;
@@ -31,14 +31,14 @@ impl<W: Write> Desk<W> {
     }
 
     // Answers a line, given its number.
-    pub fn reply(&mut self, line: &mut [u8], number: u64) -> bool {
+    pub fn reply(&mut self, line: &mut [u8], number: u64) -> io::Result<()> {
         match request::parse(line) {
             Some(asked) => self.carry_out(asked),
             None => self.answers.bad_line(number),
         }
     }
 
-    fn carry_out(&mut self, asked: Line) -> bool {
+    fn carry_out(&mut self, asked: Line) -> io::Result<()> {
         match asked {
             Line::Seal(request) => self.seal(request),
             Line::Open(request) => self.open(request),
@@ -49,11 +49,11 @@ impl<W: Write> Desk<W> {
             Line::Carry(request) => self.carry(request),
             Line::Plan(request) => self.plan(request),
             Line::SealPlanned(request) => self.seal_planned(request),
-            Line::PassedOver => true,
+            Line::PassedOver => Ok(()),
         }
     }
 
-    fn seal(&mut self, request: Request) -> bool {
+    fn seal(&mut self, request: Request) -> io::Result<()> {
         let buffer = lend(&mut self.output, request.room);
         let answer = match request.key {
             Key::Raw(key) => link::seal(
@@ -80,7 +80,7 @@ impl<W: Write> Desk<W> {
         self.answers.answer(answer, buffer)
     }
 
-    fn open(&mut self, request: Request) -> bool {
+    fn open(&mut self, request: Request) -> io::Result<()> {
         let buffer = lend(&mut self.output, request.room);
         let answer = match request.key {
             Key::Raw(key) => link::open(
@@ -108,7 +108,7 @@ impl<W: Write> Desk<W> {
     }
 
     // Begins a sealing, whose sealer takes the place of the one before it.
-    fn begin(&mut self, request: Beginning) -> bool {
+    fn begin(&mut self, request: Beginning) -> io::Result<()> {
         let settings = request.settings;
         let step = sealer::begin(
             settings.form,
@@ -122,7 +122,7 @@ impl<W: Write> Desk<W> {
     }
 
     // Hands the sealer the next part of its message.
-    fn feed(&mut self, request: Feeding) -> bool {
+    fn feed(&mut self, request: Feeding) -> io::Result<()> {
         let buffer = lend(&mut self.output, request.room);
         let step = self.sealer.feed(request.part, buffer);
         self.sealer = step.sealer;
@@ -130,14 +130,14 @@ impl<W: Write> Desk<W> {
     }
 
     // Ends the sealing.
-    fn end(&mut self, room: Room) -> bool {
+    fn end(&mut self, room: Room) -> io::Result<()> {
         let buffer = lend(&mut self.output, room);
         let step = self.sealer.end(buffer);
         self.sealer = step.sealer;
         self.answers.answer(step.answer, buffer)
     }
 
-    fn carry(&mut self, request: Carrying) -> bool {
+    fn carry(&mut self, request: Carrying) -> io::Result<()> {
         let buffer = lend(&mut self.output, request.room);
         let work = lend(&mut self.work, request.work);
         let carried = carrying::carry(
@@ -152,13 +152,13 @@ impl<W: Write> Desk<W> {
         self.answers.carried(carried, buffer, work)
     }
 
-    fn plan(&mut self, request: Planning) -> bool {
+    fn plan(&mut self, request: Planning) -> io::Result<()> {
         let buffer = lend(&mut self.output, request.room);
         let answer = engines::plan(request.message, buffer);
         self.answers.answer(answer, buffer)
     }
 
-    fn seal_planned(&mut self, request: Planned) -> bool {
+    fn seal_planned(&mut self, request: Planned) -> io::Result<()> {
         let buffer = lend(&mut self.output, request.room);
         let answer = engines::seal_planned(
             request.key,

@@ -74,6 +74,7 @@ fn decode(field: &mut [u8]) -> Option<&[u8]> {
         return None;
     }
     let count = field.len() / 2;
+    // by index: the same slice is read and written
     for i in 0..count {
         let high = char::from(field[2 * i]).to_digit(16)?;
         let low = char::from(field[2 * i + 1]).to_digit(16)?;

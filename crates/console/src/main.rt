@@ -46,7 +46,7 @@ ghost use Rattle.std.specs.Prelude.{◌≤◌};
 ghost use Rattle.console.specs.declared.TheConstants.{BUFFER};
 
 use call::Desk;
-use std::io::{Read, Write};
+use std::io::{self, Read, Write};
 
 // How many bytes are read at once, and how many of a line are held: more than a line may have.
 const BUFFER: usize = 65536;
@@ -76,31 +76,29 @@ fn converse<R: Read, W: Write>(from: &mut R, to: &mut W) {
         let count = from.read(&mut chunk).unwrap_or(0);
         if count == 0 {
             if line.held > 0 {
-                line.reply(&mut desk);
+                // the last answer, written or not
+                line.reply(&mut desk).unwrap_or(());
             }
             break;
         }
-        if !take(&chunk[..count], &mut line, &mut desk) {
+        if take(&chunk[..count], &mut line, &mut desk).is_err() {
             break;
         }
     }
 }
 
-// Answers the lines that end in the chunk, and holds what is left of it. Says whether to read on: not after an answer that could not be
-// written.
-fn take<W: Write>(chunk: &[u8], line: &mut Incoming, desk: &mut Desk<W>) -> bool {
+// Answers the lines that end in the chunk, and holds what is left of it. After an answer that could not be written nothing is read on.
+fn take<W: Write>(chunk: &[u8], line: &mut Incoming, desk: &mut Desk<W>) -> io::Result<()> {
     for part in chunk.split_inclusive(|byte| *byte == b'\n') {
         match part.strip_suffix(b"\n") {
             None => line.hold(part),
             Some(rest) => {
                 line.hold(rest);
-                if !line.end(desk) {
-                    return false;
-                }
+                line.end(desk)?;
             }
         }
     }
-    true
+    Ok(())
 }
 
 impl Incoming {
@@ -123,7 +121,7 @@ impl Incoming {
     }
 
     // Answers the line, whose LF has come, and goes on to the next. CR LF counts as LF.
-    fn end<W: Write>(&mut self, desk: &mut Desk<W>) -> bool {
+    fn end<W: Write>(&mut self, desk: &mut Desk<W>) -> io::Result<()> {
         if self.bytes[..self.held].ends_with(b"\r") {
             self.held -= 1;
         }
@@ -134,8 +132,8 @@ impl Incoming {
         written
     }
 
-    // Answers what is held, and says whether the answer could be written.
-    fn reply<W: Write>(&mut self, desk: &mut Desk<W>) -> bool {
+    // Answers what is held.
+    fn reply<W: Write>(&mut self, desk: &mut Desk<W>) -> io::Result<()> {
         let number = self.number;
         desk.reply(self.line(), number)
     }

@@ -18,7 +18,7 @@ pub enum Key<'a> {
     Prepared(Prepared),
 }
 
-// A request to seal or to open.
+// A request to seal or to open. Its edition and form are as typed: the library refuses the numbers that name nothing.
 #[derive(Clone, Copy)]
 pub struct Request<'a> {
     pub edition: usize,

@@ -5,7 +5,8 @@ ghost use Rattle.std.specs.Prelude.{◌≤◌, length, IfSome};
 ghost use Rattle.std.specs.Option.{SomeIff};
 ghost use Rattle.std.specs.Str.Parse.{IsNumeral, digits_value};
 
-// The number that one to five decimal digits stand for, up to 65535. Zeros may stand in front.
+// The number that one to five decimal digits stand for, up to 65535. Zeros may stand in front. Not by `parse`, which takes a sign and any
+// number of zeros.
 pub fn decimal(digits: &[u8]) -> Option<usize>
     ensures value { SomeIff result
         (IsNumeral 10 digits.now × (length digits.now ≤ 5) × (digits_value 10 digits.now ≤ 65535))

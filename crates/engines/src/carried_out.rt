@@ -44,6 +44,7 @@ fn planned_pairs(e: &Cipher, u: [u8; 16], m: &[u8], plan: &[u8], out: &mut [u8])
 {
     let u: [u64; 2] = Block::of(u);
     let mut runs = 0;
+    // by number, as `Accepted` goes by `plans::pair_at`
     for j in 0..plan.len() / 3 {
         runs += pair_alone(e, u, m, plans::pair_at(plan, j), out);
     }

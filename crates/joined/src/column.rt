@@ -25,7 +25,7 @@ impl ByTables {
 
     // The column of a round from the bytes a to d of its rows 0 to 3 and the word k of the key. The compiler keeps the order, and with
     // table 3 before table 2 it has a register for all that it needs.
-    #[tactic(auto, using(crate::proofs::Columns::column_is))]
+    #[tactic(auto, using(crate::proofs::Columns::entries_column))]
     fn looked_up(&self, k: u32, a: u8, b: u8, c: u8, d: u8) -> [u8; 4]
         ensures { result ≡ xor (mixed_column (substitute a ∷ substitute b ∷ substitute c ∷ substitute d ∷ [])) (little 4 k) }
     {
@@ -44,7 +44,7 @@ impl ByTables {
 
 // Table 2 has the substitution itself in row 0.
 impl Substitution for ByTables {
-    #[tactic(auto, using(crate::proofs::Columns::substituted_is))]
+    #[tactic(auto, using(crate::proofs::Columns::entry_substituted))]
     fn substitute(&self, b: u8) -> u8 {
         (self.tables.entry(2, b) % 256) as u8
     }

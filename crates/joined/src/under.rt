@@ -26,6 +26,7 @@ impl<'a> Model for Cipher<'a> {
 }
 
 impl<'a> Cipher<'a> {
+    // Here the bounds go into the type.
     pub fn new(tables: &'a ByTables, keys: &'a RoundKeys) -> Cipher<'a>
         requires { (10 ≤ keys.now.rounds) × (keys.now.rounds ≤ 14) }
         ensures { result ≡ keys.now }

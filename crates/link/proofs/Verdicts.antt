@@ -26,6 +26,10 @@ pub sure : {P A : Type 0} {n : A} {c : Result A Refusal} → Verdict P n c → (
 sure (passes p e) i h = (p, e)
 sure (stops x e) i h = absurd (cc)
 
+-- checks that came to a number have passed
+pub went_on : {P : Type 0} {n : ℕ} {c : Check} → Verdict P n c → (i : ℕ) → c ≡ Ok i → P × (c ≡ Ok n)
+went_on = sure
+
 -- a sealing that is done: they have passed, and the bytes are laid
 pub sealing_done : {P : Type 0} {n : ℕ} {c : Check} → Verdict P n c → (k : ℕ) (bytes out : List ℕ) (r : Answer) (after : List ℕ)
     → SealsBy c k bytes out r after → number_of r ≡ 0 → P × (r ≡ done n k) × (after ≡ lay 0 bytes out)

@@ -50,6 +50,7 @@ impl Refusal {
     }
 }
 
+// The three are public, with the promises that these definitions make.
 pub fn number(answer: Answer) -> usize
     ensures { result ≡ number_of answer }
 {

@@ -1,4 +1,5 @@
-// The calls, under any key that they take: raw bytes, or a prepared key, whoever made it.
+// The calls, under any key that they take: raw bytes, or a prepared key, whoever made it. Edition and form are numbers: the checks have an
+// answer for any.
 ghost use Rattle.std.specs.Prelude.{◌≡◌, ◌≤◌, Bool, true, List, ℕ, length};
 ghost use Rattle.aes.specs.Key.{expanded};
 ghost use Rattle.aes.specs.declared.key.RoundKeys.{RoundKeys};
@@ -80,6 +81,7 @@ impl Key for Prepared {
         check::known_rounds(self.rounds)
     }
 
+    // Its own two fields, as a sealer has: promises name them one by one (`preparation`), so no type joins them.
     fn round_keys(&self) -> RoundKeys {
         let words = self.words;
         RoundKeys {

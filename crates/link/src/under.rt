@@ -1,4 +1,4 @@
-// What a call does under a key once its checks have passed, whoever made the key's record. e is the cipher under it, q the first mask of
+// What a call does under a key once its checks have passed, whoever made its round keys. e is the cipher under it, q the first mask of
 // the data pass, and `before` how many times the cipher ran for these.
 ghost use Rattle.std.specs.Prelude.{◌≡◌, ◌+◌, ◌-◌, ◌≤◌, length, Ok};
 ghost use Rattle.aes.specs.Under.{cipher_under};

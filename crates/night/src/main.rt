@@ -150,6 +150,7 @@ fn print(rt: &impl Print, answer: Answer, out: &[u8]) -> io::Result<()>
     let length = link::length(answer);
     let runs = link::runs(answer);
     print!(rt; "{number} {length} {runs} ")?;
+    // as fips197 prints: the two share no crate that prints, and one for three lines is no plainer
     for byte in &out[out.len() - TAG_BYTES..] {
         print!(rt; "{byte:02x}")?;
     }

@@ -133,6 +133,7 @@ fn start<'a>(
 }
 
 impl Sealer {
+    // Its own two fields: promises name them one by one (`begun_by`), so no type joins them.
     fn round_keys(&self) -> RoundKeys
         ensures { result ≡ record { rounds = self.now.rounds; words = self.now.words } }
     {
@@ -155,7 +156,7 @@ impl Sealer {
         self.take_in(part, out)
     }
 
-    // A part whose checks have passed.
+    // A part whose checks have passed. A sealer is any value (`Feeds`), so that its type cannot hold their bounds.
     fn take_in(mut self, part: &[u8], out: &mut [u8]) -> Step
         requires round_count { (10 ≤ self.rounds) × (self.rounds ≤ 14) }
         requires part_bound { (self.fed + length part.now ≤ 16384) × (32 * pairs_of (keeps self.fed + length part.now) ≤ length out.old) }
@@ -201,7 +202,7 @@ impl Sealer {
         self.give_rest(out)
     }
 
-    // An end whose checks have passed.
+    // An end whose checks have passed, likewise.
     fn give_rest(self, out: &mut [u8]) -> Step
         requires round_count { (10 ≤ self.rounds) × ((self.rounds ≤ 14) × (self.tag ≤ 16)) }
         requires room { keeps self.fed + self.tag ≤ length out.old }

@@ -1,5 +1,5 @@
 -- An entry of the joined tables, read: its bytes are the shares of the substitution. Assumes nothing.
-use mathlib.Core.Path.{◌≡◌, refl, ap₂, subst, ◌∙◌}
+use mathlib.Core.Path.{◌≡◌, refl, ap, ap₂, subst, ◌∙◌}
 use mathlib.Core.List.{List, [], ◌∷◌}
 use Prim.Native.Nat.{ℕ, zero, suc, ◌+◌, ◌*◌, ◌/◌, ◌%◌, ◌<◌}
 use native.Mathlib.Omega.{arith}
@@ -43,11 +43,16 @@ entry_at t is k b i hk hb hi =
     let byte_is : i % 256 ≡ b = omega arith in
     at (λ i. entry (i / 256) (i % 256)) 1024 t is i (omega arith) ∙ ap₂ entry table_is byte_is
 
-pub shares_at : (k b : ℕ) → b < 256
+pub entry_shares : (k b : ℕ) → b < 256
     → little 4 (entry k b) ≡ share k 0 (substitute b) ∷ share k 1 (substitute b) ∷ share k 2 (substitute b) ∷ share k 3 (substitute b) ∷ []
 unfolding entry
-shares_at k b hb =
+entry_shares k b hb =
     let s = substitute b in
     let hs = substitute_byte_lem b hb in
     little_number (share k 0 s) (share k 1 s) (share k 2 s) (share k 3 s)
     (share_byte s (below k 0) hs) (share_byte s (below k 1) hs) (share_byte s (below k 2) hs) (share_byte s (below k 3) hs)
+
+-- so in a list that is the tables
+pub shares_at : (t : List ℕ) → t ≡ joined → (k b i : ℕ) → k < 4 → b < 256 → i ≡ 256 * k + b
+    → little 4 (get_or t i 0) ≡ share k 0 (substitute b) ∷ share k 1 (substitute b) ∷ share k 2 (substitute b) ∷ share k 3 (substitute b) ∷ []
+shares_at t is k b i hk hb hi = ap (little 4) (entry_at t is k b i hk hb hi) ∙ entry_shares k b hb
