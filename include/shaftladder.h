@@ -89,7 +89,7 @@ enum shaftladder_form { SHAFTLADDER_PARALLEL = 0, SHAFTLADDER_SERIAL = 1 };
 /*
  * STACK that a call needs at most, in bytes, its arguments included. Measured and not
  * proved: calls at the seam lengths, in each edition and form and with every key length, ran
- * on a painted stack, and of the paint 6,440 bytes at most were gone (host/stack.c). glibc's
+ * on a painted stack, and of the paint 6,120 bytes at most were gone (host/stack.c). glibc's
  * memcpy and memset are in it, bound beforehand: a dynamic linker that binds them at their
  * first call needs more.
  */

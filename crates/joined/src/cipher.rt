@@ -1,5 +1,4 @@
 // The rounds by the joined tables. Rows are shifted before bytes are substituted, which comes to the same.
-ghost use Rattle.std.specs.Prelude.{◌≡◌};
 
 use crate::column::ByTables;
 use aes::Steps;

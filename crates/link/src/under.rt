@@ -1,6 +1,6 @@
 // What a call does under a key once its checks have passed, whoever made its round keys. e is the cipher under it, q the first mask of
 // the data pass, and `before` how many times the cipher ran for these.
-ghost use Rattle.std.specs.Prelude.{◌≡◌, ◌+◌, ◌-◌, ◌≤◌, length, Ok};
+ghost use Rattle.std.specs.Prelude.{◌+◌, ◌-◌, ◌≤◌, length, Ok};
 ghost use Rattle.aes.specs.Under.{cipher_under};
 ghost use Rattle.mode.specs.Sealing.{otr_from, from_inputs};
 ghost use Rattle.mode.specs.Undoing.{found_from_inputs};

@@ -5,7 +5,6 @@
 ghost use Rattle.std.specs.Prelude.{◌≡◌, ◌++◌, ◌+◌, ◌*◌, ◌≤◌, length, take};
 ghost use Rattle.lists.specs.Lay.{lay};
 ghost use Rattle.lists.specs.Xor.{xor};
-ghost use Rattle.lists.specs.Zeros.{zeros};
 ghost use Rattle.aes.specs.Under.{cipher_under};
 ghost use Rattle.mode.specs.Masks.{doubles, doubled};
 ghost use Rattle.mode.specs.Message.{pairs_of, pairs as pairs_from, pairs_inputs, sum as sum_of};
