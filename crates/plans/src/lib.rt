@@ -11,7 +11,7 @@ pub fn pair_at(plan: &[u8], j: usize) -> usize
     requires { 3 * j + 3 ≤ length plan.now }
     ensures { result ≡ pair_at plan.now j }
 {
-    256 * plan[3 * j] as usize + plan[3 * j + 1] as usize
+    usize::from(u16::from_be_bytes([plan[3 * j], plan[3 * j + 1]]))
 }
 
 // Whether a plan is one for n pairs: a mark for each pair, set where an entry is for it.
@@ -39,7 +39,7 @@ pub fn put_plan(n: usize, out: &mut [u8])
     ensures { out.new ≡ lay 0 (plan_of n) out.old }
 {
     for i in 0..n {
-        let entry = [(i / 256) as u8, (i % 256) as u8, (i % 4) as u8];
-        lists::lay(out, 3 * i, &entry);
+        let [high, low] = (i as u16).to_be_bytes();
+        lists::lay(out, 3 * i, &[high, low, (i % 4) as u8]);
     }
 }
