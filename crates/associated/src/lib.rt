@@ -56,7 +56,7 @@ pub fn seals_with(e: &Cipher, q: [u8; 16], s: &Settings) -> Ran<SealsWith>
     ensures added_value { result.value.added ≡ added_of (cipher_under e.now) q s.now.edition s.now.nonce.now s.now.ad.now s.now.tag }
     ensures runs_value { result.runs ≡ length (call_inputs (cipher_under e.now) q s.now.edition s.now.nonce.now s.now.ad.now s.now.tag) }
 {
-    let v = e.encrypt(nonce::nonce_block(s.edition, s.tag, s.nonce));
+    let v = e.encrypt(nonce::nonce_block(s));
     let Ran { value: ta, runs } = ta(s.edition, e, q, s.ad);
     let value = match s.edition.form() {
         Form::Parallel => SealsWith { u: v, added: ta },

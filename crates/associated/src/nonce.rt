@@ -1,8 +1,9 @@
-// The nonce block of each edition, of what `Settings` holds one by one: their lengths are asked for here as there.
+// The nonce block of each edition.
 ghost use Rattle.std.specs.Prelude.{◌≡◌, ◌≤◌, length};
 ghost use Rattle.block.specs.Block.{pad};
 ghost use Rattle.mode.specs.Nonce.{format as format_of, nonce_block};
 
+use crate::Settings;
 use mode::Edition;
 
 fn format(t: usize, nonce: &[u8]) -> [u8; 16]
@@ -26,13 +27,11 @@ fn padded(nonce: &[u8]) -> [u8; 16]
     block::pad(block::read(nonce, 0, k), k)
 }
 
-pub fn nonce_block(edition: Edition, t: usize, nonce: &[u8]) -> [u8; 16]
-    requires lengths { (1 ≤ length nonce.now) × (length nonce.now ≤ 15) }
-    requires t_bound { t ≤ 16 }
-    ensures { result ≡ nonce_block edition t nonce.now }
+pub fn nonce_block(s: &Settings) -> [u8; 16]
+    ensures { result ≡ nonce_block s.now.edition s.now.tag s.now.nonce.now }
 {
-    match edition {
-        Edition::V1 => padded(nonce),
-        Edition::V3(_) => format(t, nonce),
+    match s.edition {
+        Edition::V1 => padded(s.nonce),
+        Edition::V3(_) => format(s.tag, s.nonce),
     }
 }
