@@ -1,4 +1,4 @@
-// The rounds (FIPS 197, section 5.1, Figure 5) over an expanded key, which is one flat array, whatever does a round.
+// The rounds (FIPS 197, section 5.1, Figure 5) over an expanded key, which is one flat array (document 01's form), whatever does a round.
 ghost use Rattle.std.specs.Prelude.{◌≡◌, ◌≤◌, ◌<◌};
 ghost use Rattle.aes.specs.Cipher.{last_round, rounds as rounds_of, cipher};
 

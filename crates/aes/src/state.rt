@@ -97,7 +97,7 @@ pub fn key_word(w: &[u8; 240], i: usize) -> u32
     words::pack(w[j + 0], w[j + 1], w[j + 2], w[j + 3])
 }
 
-// A column and word i of the expanded key.
+// A column and word i of the expanded key, with a plain bound, as in `key_word`.
 #[tactic(auto, using(words::proofs::Words::little_xor), unfolding(lists::specs::Xor::xor))]
 fn add_word(w: &[u8; 240], i: usize, a: [u8; 4]) -> [u8; 4]
     requires { i < 60 }

@@ -172,7 +172,8 @@ impl Text {
     }
 }
 
-// Lays a number's decimal digits at the end of a buffer, and answers where they begin. No number of 64 bits has more digits than 20.
+// Lays a number's decimal digits at the end of a buffer, and answers where they begin. No number of 64 bits has more digits than 20. By
+// hand, as `Text` says.
 fn lay_digits(digits: &mut [u8; 20], number: u64) -> usize
     ensures { result ≤ 20 }
 {
@@ -187,6 +188,7 @@ fn lay_digits(digits: &mut [u8; 20], number: u64) -> usize
     0
 }
 
+// By hand, as `Text` says.
 fn hex_digit(value: u8) -> u8
     requires { value < 16 }
 {

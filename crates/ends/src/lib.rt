@@ -1,5 +1,6 @@
 // The last one or two blocks of the message pass, and TE. Each function writes its blocks and gives back what they put into the
 // checksum, and how many times the cipher ran (document 02, wish 6). k are the masks L and L' behind the pairs.
+// Edition and u stand one by one, as the definitions have them (`masks_of edition u`).
 #![tactic(auto)]
 
 ghost use Rattle.std.specs.Prelude.{◌≡◌, true, false, List, [], ◌∷◌, ℕ, ◌+◌, ◌-◌, ◌≤◌, ◌<◌, ltb, length, take, drop};

@@ -51,7 +51,7 @@ fn planned_pairs(e: &Cipher, u: [u8; 16], m: &[u8], plan: &[u8], out: &mut [u8])
     runs
 }
 
-// Seals as `passes::seal` does in edition 3 with parallel data, by a plan.
+// Seals as `passes::seal` does in edition 3 with parallel data, by a plan. Here a `Settings` is made, which is of that edition alone.
 pub fn seal<'a>(
     e: &Cipher,
     q: [u8; 16],

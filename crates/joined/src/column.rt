@@ -33,7 +33,7 @@ impl ByTables {
         words::unpack(t.entry(0, a) ^ t.entry(1, b) ^ t.entry(3, d) ^ t.entry(2, c) ^ k)
     }
 
-    // A column of a round and word i of the expanded key.
+    // A column of a round and word i of the expanded key, with a plain bound, as in `aes::key_word`.
     pub fn round_column(&self, w: &[u8; 240], i: usize, a: [u8; 4]) -> [u8; 4]
         requires { i < 60 }
         ensures { result ≡ xor (mixed_column (sub_word a)) (word w.now i) }

@@ -20,7 +20,7 @@ pub struct Prepared {
     pub zero: [u8; 16],
 }
 
-// The answer, done with no bytes written or the refusal 1, and the record.
+// The answer, done with no bytes written or the refusal 1, and the record. No `Result`: a refusal has a record too, of zeros (`preparation`).
 #[derive(Clone, Copy)]
 pub struct Preparation {
     pub answer: Answer,

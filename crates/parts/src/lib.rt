@@ -1,5 +1,6 @@
 // The message pass of v3.1 in parts (document 02, wish 3), on arrays and slices: a part fed, and the end. e is the cipher under the key,
 // E of the papers, in the contracts `cipher_under e.now`. What runs the cipher says how many times it did (wish 6).
+// State and held stand one by one, as the definitions have them (`between state held`).
 #![tactic(auto)]
 
 ghost use Rattle.std.specs.Prelude.{◌≡◌, ◌++◌, ◌+◌, ◌*◌, ◌≤◌, length, take};

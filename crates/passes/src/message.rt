@@ -1,5 +1,5 @@
 // The message pass in an edition, from its U or δ: the pairs, the last one or two blocks, and TE; and how many times the cipher ran for
-// them.
+// them. Edition and u stand one by one, as the definitions have them; `room` is of two values, the message and the buffer, which no type holds.
 ghost use Rattle.std.specs.Prelude.{◌≡◌, List, ℕ, ◌+◌, ◌≤◌, length};
 ghost use Rattle.lists.specs.Lay.{lay};
 ghost use Rattle.lists.specs.Zeros.{zeros};

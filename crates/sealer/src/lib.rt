@@ -84,7 +84,7 @@ pub fn begin(form: usize, key: &[u8], nonce: &[u8], ad: &[u8], tag: usize) -> St
 }
 
 // A beginning whose checks have passed, under the cipher e of these round keys and from the first mask q, whoever made them; `before` is
-// how many times the cipher ran for q.
+// how many times the cipher ran for q. Here a `Settings` is made: the promise goes by the form's number.
 fn start<'a>(
     form: usize,
     e: &Cipher,
