@@ -54,54 +54,42 @@ impl<W: Write> Desk<W> {
     }
 
     fn seal(&mut self, request: Request) -> io::Result<()> {
-        let buffer = lend(&mut self.output, request.room);
-        let answer = match request.key {
-            Key::Raw(key) => link::seal(
-                request.edition,
-                request.form,
-                key,
-                request.nonce,
-                request.data,
-                request.message,
-                request.tag,
-                buffer,
-            ),
+        let Request {
+            edition,
+            form,
+            key,
+            nonce,
+            data,
+            message,
+            tag,
+            room,
+        } = request;
+        let buffer = lend(&mut self.output, room);
+        let answer = match key {
+            Key::Raw(key) => link::seal(edition, form, key, nonce, data, message, tag, buffer),
             Key::Prepared(key) => link::seal_with(
-                request.edition,
-                request.form,
-                key,
-                request.nonce,
-                request.data,
-                request.message,
-                request.tag,
-                buffer,
+                edition, form, key, nonce, data, message, tag, buffer,
             ),
         };
         self.answers.answer(answer, buffer)
     }
 
     fn open(&mut self, request: Request) -> io::Result<()> {
-        let buffer = lend(&mut self.output, request.room);
-        let answer = match request.key {
-            Key::Raw(key) => link::open(
-                request.edition,
-                request.form,
-                key,
-                request.nonce,
-                request.data,
-                request.message,
-                request.tag,
-                buffer,
-            ),
+        let Request {
+            edition,
+            form,
+            key,
+            nonce,
+            data,
+            message,
+            tag,
+            room,
+        } = request;
+        let buffer = lend(&mut self.output, room);
+        let answer = match key {
+            Key::Raw(key) => link::open(edition, form, key, nonce, data, message, tag, buffer),
             Key::Prepared(key) => link::open_with(
-                request.edition,
-                request.form,
-                key,
-                request.nonce,
-                request.data,
-                request.message,
-                request.tag,
-                buffer,
+                edition, form, key, nonce, data, message, tag, buffer,
             ),
         };
         self.answers.answer(answer, buffer)
