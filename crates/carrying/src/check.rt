@@ -24,19 +24,11 @@ pub fn other_edition(edition: usize) -> usize
 }
 
 // The old side's 10, 8 and 1 to 5.
-fn old_check(
-    edition: usize,
-    form: usize,
-    key: usize,
-    nonce: usize,
-    tag: usize,
-    ad: usize,
-    sealed: usize,
-) -> Result<(), Refusal>
-    ensures { result ≡ old_check edition form key nonce tag ad sealed }
+fn old_check(edition: usize, old: &Settings, tag: usize, sealed: usize) -> Result<(), Refusal>
+    ensures { result ≡ old_check edition old.now.form (length old.now.key.now) (length old.now.nonce.now) tag (length old.now.ad.now) sealed }
 {
-    let known = link::known_key(key);
-    link::call_check(edition, form, known, nonce, tag, ad)?;
+    let known = link::known_key(old.key.len());
+    link::call_check(edition, old.form, known, old.nonce.len(), tag, old.ad.len())?;
     if !link::from_to(tag, 16384 + tag, sealed) {
         return Err(Refusal::Length);
     }
@@ -44,18 +36,19 @@ fn old_check(
 }
 
 // The new side's 8, 1, 2 and 4. Its edition is one, and the tag length has passed with the old side's.
-fn new_check(
-    edition: usize,
-    form: usize,
-    key: usize,
-    nonce: usize,
-    tag: usize,
-    ad: usize,
-) -> Result<(), Refusal>
-    ensures { result ≡ new_check edition form key nonce tag ad }
+fn new_check(edition: usize, new: &Settings, tag: usize) -> Result<(), Refusal>
+    ensures { result ≡ new_check edition new.now.form (length new.now.key.now) (length new.now.nonce.now) tag (length new.now.ad.now) }
 {
-    let known = link::known_key(key);
-    link::call_check(other_edition(edition), form, known, nonce, tag, ad)
+    let known = link::known_key(new.key.len());
+    let edition2 = other_edition(edition);
+    link::call_check(
+        edition2,
+        new.form,
+        known,
+        new.nonce.len(),
+        tag,
+        new.ad.len(),
+    )
 }
 
 // 6, and then 11. The tag is no longer than the record.
@@ -101,25 +94,8 @@ pub fn carry_check(
 ) -> Result<(), Stopped>
     ensures { result ≡ of Old (old_check edition old.now.form (length old.now.key.now) (length old.now.nonce.now) tag (length old.now.ad.now) sealed) (of New (new_check edition new.now.form (length new.now.key.now) (length new.now.nonce.now) tag (length new.now.ad.now)) (of Neither (room_check tag sealed room work (not (same old.now.key.now new.now.key.now))) passed)) }
 {
-    let of_old = old_check(
-        edition,
-        old.form,
-        old.key.len(),
-        old.nonce.len(),
-        tag,
-        old.ad.len(),
-        sealed,
-    );
-    on(Side::Old, of_old)?;
-    let of_new = new_check(
-        edition,
-        new.form,
-        new.key.len(),
-        new.nonce.len(),
-        tag,
-        new.ad.len(),
-    );
-    on(Side::New, of_new)?;
+    on(Side::Old, old_check(edition, old, tag, sealed))?;
+    on(Side::New, new_check(edition, new, tag))?;
     on(
         Side::Neither,
         room_check(tag, sealed, room, work, old.key, new.key),

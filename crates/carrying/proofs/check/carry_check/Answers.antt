@@ -9,5 +9,5 @@ use Rattle.carrying.proofs.check.carry_check.Goals as goal
 pub room_check-requires : goal.room_check-requires
 room_check-requires c =
     let v = c.args in
-    let come = c.in_ok-on.ensures ∙ ap (λ (d : Result (Unit {0}) Refusal). of Old d passed) c.old_check-of_old.ensures in
+    let come = c.in_ok-on.ensures ∙ ap (λ (d : Result (Unit {0}) Refusal). of Old d passed) c.old_check.ensures in
     (sure_of Old (old_verdict v.edition v.old.now.form (length v.old.now.key.now) (length v.old.now.nonce.now) v.tag (length v.old.now.ad.now) v.sealed) _ come).1
