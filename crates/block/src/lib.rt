@@ -17,7 +17,7 @@ pub fn read(s: &[u8], at: usize, n: usize) -> [u8; 16]
     ensures { result ≡ filled (take n (drop at s.now)) }
 {
     let mut b = lists::blank();
-    b[..n].copy_from_slice(&s[at..at + n]);
+    lists::lay(&mut b, 0, &s[at..at + n]);
     b
 }
 
@@ -38,7 +38,7 @@ pub fn pad(b: [u8; 16], n: usize) -> [u8; 16]
         return b;
     }
     let mut p = lists::blank();
-    p[..n].copy_from_slice(&b[..n]);
+    lists::lay(&mut p, 0, &b[..n]);
     p[n] = 0x80;
     p
 }

@@ -1,6 +1,7 @@
 -- `block::pad` meets its contract. Assumes nothing.
 use Rattle.std.proofs.Common.{◌≡◌, ◌+◌, ℕ, List, ◌++◌, length, take, drop, slice_set, sym, ap, ap₂, ◌∙◌, arith, rules}
 use lib.Seq.{length-take-le, take_all}
+use Rattle.lists.specs.Lay.{lay}
 use Rattle.lists.specs.Zeros.{zeros}
 use Rattle.lists.proofs.Laid.{set-lay}
 use Rattle.lists.proofs.Zeros.{length-zeros}
@@ -20,7 +21,7 @@ returns c =
     let p = take n c.args.b in
     let long : length p ≡ n = length-take-le n c.args.b (omega arith) in
     let place : n ≡ 0 + length p = omega arith in
-    ap₂ (λ (l z : List ℕ). slice_set (l ++ drop n z) n 0x80) c.copy_from_slice.ensures.after c.blank-p.ensures
-    ∙ ap (λ (k : ℕ). slice_set (p ++ drop k (zeros 16)) k 0x80) place
+    ap (λ (l : List ℕ). slice_set l n 0x80) (c.lay.ensures ∙ ap (lay 0 p) c.blank-p.ensures)
+    ∙ ap (λ (k : ℕ). slice_set (lay 0 p (zeros 16)) k 0x80) place
     ∙ set-lay 0 p (zeros 16) 0x80 (omega (arith, length-zeros 16))
     ∙ sym (pad_short p (omega arith))
