@@ -7,6 +7,7 @@ ghost use Rattle.link.specs.Checks.{known_key};
 ghost use Rattle.link.specs.Prepared.{preparation};
 
 use crate::answer::{Answer, Done, Refusal};
+use crate::check;
 use aes::RoundKeys;
 use field::Sbox;
 use joined::{ByTables, Cipher, Ran};
@@ -48,8 +49,7 @@ pub fn own_mask(e: &Cipher, ad: &[u8]) -> Ran<[u8; 16]>
 pub fn prepare(key: &[u8]) -> Preparation
     ensures { result ≡ preparation key.now }
 {
-    let sbox = Sbox::new();
-    let Some(keys) = aes::expand(&sbox, key) else {
+    if !check::known_key(key.len()) {
         return Preparation {
             answer: Err(Refusal::Key),
             key: Prepared {
@@ -58,8 +58,9 @@ pub fn prepare(key: &[u8]) -> Preparation
                 zero: lists::blank(),
             },
         };
-    };
+    }
     let tables = ByTables::new();
+    let keys = own_keys(key);
     let e = Cipher::new(&tables, &keys);
     let Ran { value: zero, runs } = associated::first_q(&e, true);
     let words = keys.words;
