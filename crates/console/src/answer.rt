@@ -166,9 +166,22 @@ impl Text {
         if bytes.is_empty() {
             return self.put(b"-");
         }
-        for byte in bytes {
-            self.put(&[hex_digit(*byte / 16), hex_digit(*byte % 16)]);
-        }
+        let from = self.end;
+        let end = from + 2 * bytes.len();
+        lay_hex(&mut self.bytes[from..end], bytes);
+        self.end = end;
+    }
+}
+
+// Lays bytes as hexadecimal digits over a part of the text that is twice as long. Not inlined, so that the compiler sees that the two share
+// no byte, and takes many at once: one by one a large output takes as long here as to seal it.
+#[inline(never)]
+fn lay_hex(part: &mut [u8], bytes: &[u8])
+    requires { length part.old ≡ 2 * length bytes.now }
+{
+    let (places, _) = part.as_chunks_mut::<2>();
+    for (digits, byte) in places.iter_mut().zip(bytes) {
+        *digits = [hex_digit(*byte / 16), hex_digit(*byte % 16)];
     }
 }
 

@@ -1,5 +1,5 @@
 // The fields of a request's line.
-ghost use Rattle.std.specs.Prelude.{◌≤◌};
+ghost use Rattle.std.specs.Prelude.{◌≤◌, length, IfSome};
 
 // The most bytes of an output buffer, and of a work buffer.
 pub const MOST_ROOM: usize = 20480;
@@ -36,7 +36,9 @@ impl<'a> Fields<'a> {
     }
 
     // The number that the next field stands for.
-    pub fn number(&mut self) -> Option<usize> {
+    pub fn number(&mut self) -> Option<usize>
+        ensures { IfSome result (λ number. number ≤ 65535) }
+    {
         digits::decimal(self.field()?)
     }
 
@@ -57,7 +59,7 @@ impl<'a> Fields<'a> {
 
 // The field at the start, and what stands behind the space that ends it.
 fn cut(rest: &mut [u8]) -> (&mut [u8], Option<&mut [u8]>) {
-    let Some(end) = rest.iter().position(|byte| *byte == b' ') else {
+    let Some(end) = memchr::memchr(b' ', rest) else {
         return (rest, None);
     };
     let (field, behind) = rest.split_at_mut(end);
@@ -66,7 +68,9 @@ fn cut(rest: &mut [u8]) -> (&mut [u8], Option<&mut [u8]>) {
 
 // The bytes that a field's digits stand for, put at the field's start. A byte lies no later than its own digits, so that no digit is
 // overwritten before it is read.
-fn decode(field: &mut [u8]) -> Option<&[u8]> {
+fn decode(field: &mut [u8]) -> Option<&[u8]>
+    ensures { IfSome result (λ bytes. length bytes.now ≤ length field.old) }
+{
     if matches!(field, [b'-']) {
         return Some(&field[..0]);
     }

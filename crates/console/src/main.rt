@@ -42,10 +42,11 @@ mod call;
 mod fields;
 mod request;
 
-ghost use Rattle.std.specs.Prelude.{◌≤◌};
+ghost use Rattle.std.specs.Prelude.{◌≡◌, ◌≤◌};
 ghost use Rattle.console.specs.declared.TheConstants.{BUFFER};
 
 use call::Desk;
+use memchr::memchr;
 use std::io::{self, Read, Write};
 
 // How many bytes are read at once, and how many of a line are held: more than a line may have.
@@ -89,15 +90,14 @@ fn converse<R: Read, W: Write>(from: &mut R, to: &mut W) {
 
 // Answers the lines that end in the chunk, and holds what is left of it. After an answer that could not be written nothing is read on.
 fn take<W: Write>(chunk: &[u8], line: &mut Incoming, desk: &mut Desk<W>) -> io::Result<()> {
-    for part in chunk.split_inclusive(|byte| *byte == b'\n') {
-        match part.strip_suffix(b"\n") {
-            None => line.hold(part),
-            Some(rest) => {
-                line.hold(rest);
-                line.end(desk)?;
-            }
-        }
+    let mut rest = chunk;
+    while let Some(end) = memchr(b'\n', rest) {
+        let (part, behind) = rest.split_at(end);
+        line.hold(part);
+        line.end(desk)?;
+        rest = &behind[1..];
     }
+    line.hold(rest);
     Ok(())
 }
 
@@ -121,7 +121,9 @@ impl Incoming {
     }
 
     // Answers the line, whose LF has come, and goes on to the next. CR LF counts as LF.
-    fn end<W: Write>(&mut self, desk: &mut Desk<W>) -> io::Result<()> {
+    fn end<W: Write>(&mut self, desk: &mut Desk<W>) -> io::Result<()>
+        ensures { self.new.held ≡ 0 }
+    {
         if self.bytes[..self.held].ends_with(b"\r") {
             self.held -= 1;
         }

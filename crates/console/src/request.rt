@@ -1,7 +1,6 @@
 // What a line asks for.
 use crate::fields::{Fields, Room};
 use carrying::Settings;
-use link::Prepared;
 
 // The most bytes of a line, without its line end.
 const MOST_LINE: usize = 65000;
@@ -15,7 +14,8 @@ const ZERO: usize = 16;
 #[derive(Clone, Copy)]
 pub enum Key<'a> {
     Raw(&'a [u8]),
-    Prepared(Prepared),
+    // ROUNDS, WORDS and ZERO.
+    Prepared(usize, &'a [u8; WORDS], &'a [u8; ZERO]),
 }
 
 // A request to seal or to open. Its edition and form are as typed: the library refuses the numbers that name nothing.
@@ -141,14 +141,9 @@ fn parse_prepared<'a>(fields: &mut Fields<'a>) -> Option<Request<'a>> {
     let edition = fields.number()?;
     let form = fields.number()?;
     let rounds = fields.number()?;
-    let words = *fields.bytes()?.as_array::<WORDS>()?;
-    let zero = *fields.bytes()?.as_array::<ZERO>()?;
-    let key = Key::Prepared(Prepared {
-        rounds,
-        words,
-        zero,
-    });
-    parse_strings(fields, edition, form, key)
+    let words = fields.bytes()?.as_array::<WORDS>()?;
+    let zero = fields.bytes()?.as_array::<ZERO>()?;
+    parse_strings(fields, edition, form, Key::Prepared(rounds, words, zero))
 }
 
 // The fields behind the key, and with them the request.
