@@ -4,7 +4,6 @@ ghost use Rattle.std.specs.Prelude.{◌≡◌, length};
 use crate::answer::Answers;
 use crate::fields::{MOST_ROOM, Room};
 use crate::request::{self, Beginning, Carrying, Feeding, Key, Line, Planned, Planning, Request};
-use link::Prepared;
 use sealer::Sealer;
 use std::io::{self, Write};
 
@@ -68,16 +67,10 @@ impl<W: Write> Desk<W> {
         let buffer = lend(&mut self.output, room);
         let answer = match key {
             Key::Raw(key) => link::seal(edition, form, key, nonce, data, message, tag, buffer),
-            Key::Prepared(rounds, words, zero) => link::seal_with(
-                edition,
-                form,
-                prepared(rounds, words, zero),
-                nonce,
-                data,
-                message,
-                tag,
-                buffer,
-            ),
+            Key::Prepared(record) => {
+                let key = record.prepared();
+                link::seal_with(edition, form, key, nonce, data, message, tag, buffer)
+            }
         };
         self.answers.answer(answer, buffer)
     }
@@ -96,16 +89,10 @@ impl<W: Write> Desk<W> {
         let buffer = lend(&mut self.output, room);
         let answer = match key {
             Key::Raw(key) => link::open(edition, form, key, nonce, data, message, tag, buffer),
-            Key::Prepared(rounds, words, zero) => link::open_with(
-                edition,
-                form,
-                prepared(rounds, words, zero),
-                nonce,
-                data,
-                message,
-                tag,
-                buffer,
-            ),
+            Key::Prepared(record) => {
+                let key = record.prepared();
+                link::open_with(edition, form, key, nonce, data, message, tag, buffer)
+            }
         };
         self.answers.answer(answer, buffer)
     }
@@ -173,15 +160,6 @@ impl<W: Write> Desk<W> {
             buffer,
         );
         self.answers.answer(answer, buffer)
-    }
-}
-
-// The prepared key that a line names. A line's request refers to its bytes: one with the key itself in it is moved each time as a whole.
-fn prepared(rounds: usize, words: &[u8; 240], zero: &[u8; 16]) -> Prepared {
-    Prepared {
-        rounds,
-        words: *words,
-        zero: *zero,
     }
 }
 

@@ -1,6 +1,7 @@
 // What a line asks for.
 use crate::fields::{Fields, Room};
 use carrying::Settings;
+use link::Prepared;
 
 // The most bytes of a line, without its line end.
 const MOST_LINE: usize = 65000;
@@ -14,8 +15,25 @@ const ZERO: usize = 16;
 #[derive(Clone, Copy)]
 pub enum Key<'a> {
     Raw(&'a [u8]),
-    // ROUNDS, WORDS and ZERO.
-    Prepared(usize, &'a [u8; WORDS], &'a [u8; ZERO]),
+    Prepared(Record<'a>),
+}
+
+// A prepared key whose bytes stay in the line: a request that held them would be moved with them each time.
+#[derive(Clone, Copy)]
+pub struct Record<'a> {
+    rounds: usize,
+    words: &'a [u8; WORDS],
+    zero: &'a [u8; ZERO],
+}
+
+impl<'a> Record<'a> {
+    pub fn prepared(self) -> Prepared {
+        Prepared {
+            rounds: self.rounds,
+            words: *self.words,
+            zero: *self.zero,
+        }
+    }
 }
 
 // A request to seal or to open. Its edition and form are as typed: the library refuses the numbers that name nothing.
@@ -140,10 +158,12 @@ fn parse_raw<'a>(fields: &mut Fields<'a>) -> Option<Request<'a>> {
 fn parse_prepared<'a>(fields: &mut Fields<'a>) -> Option<Request<'a>> {
     let edition = fields.number()?;
     let form = fields.number()?;
-    let rounds = fields.number()?;
-    let words = fields.bytes()?.as_array::<WORDS>()?;
-    let zero = fields.bytes()?.as_array::<ZERO>()?;
-    parse_strings(fields, edition, form, Key::Prepared(rounds, words, zero))
+    let key = Key::Prepared(Record {
+        rounds: fields.number()?,
+        words: fields.bytes()?.as_array::<WORDS>()?,
+        zero: fields.bytes()?.as_array::<ZERO>()?,
+    });
+    parse_strings(fields, edition, form, key)
 }
 
 // The fields behind the key, and with them the request.
